@@ -1,60 +1,26 @@
 -- The text of each command for a circuit and its delays is one of counted lines, and its status
 -- says whether a period is admitted.
-use Rattle.std.proofs.Common.{◌≡◌, ◌<◌, ◌≤◌, inl, inr, ℕ, zero, suc, ℤ, true, List, [], ◌∷◌, ◌++◌, length, map, nat_abs, refl, ap, sym, subst, append-nil, arith, pos}
-use Rattle.std.proofs.lemmas.Int.{ints}
-use Rattle.std.proofs.lemmas.List.{length-map, length-replicate}
-use Rattle.std.proofs.lemmas.List.Elements.{All-weaker}
-use Rattle.cts_base.specs.declared.fraction.Fraction.{Fraction}
-use Rattle.cts_model.specs.declared.circuit.Circuit.{Circuit}
-use Rattle.cts_model.specs.declared.constraint.Constraint.{Constraint}
-use Rattle.cts_model.specs.declared.period.PeriodShow.{PeriodShow}
+use Rattle.answer_texts.proofs.Vocabulary.{◌≡◌, ◌<◌, ◌≤◌, inl, inr, ℕ, zero, suc, ℤ, true, List, [], ◌∷◌, ◌++◌, length, map, nat_abs, refl, ap, sym, subst, append-nil, arith, pos, ints, length-map, length-replicate, All-weaker, Fraction, Circuit, Constraint, PeriodShow, Problem, First, Second, Tech, Topology, IsBetweenRegisters, report_lines, Words, text_of, show_lines, IsCycle, HasNoPeriod, IsForbidding, IsLeastFraction, tails_within, CornersOutcome, AreOfCorners, IsCommonShow, IsCornersOutcome, Form, MarginOutcome, IsMarginOutcome, wire_line, report_lines_are, all_at_zero, numbered_line_at, numbered_lines, common_show_lines, corners_lines, corners_status, IsCornersText, summary_lines, IsSummaryText, IsDemoText, IsTreeText, IsSynthesisText, IsEmbeddingText, margin_lines, IsMarginText, period_lines, never_lines, outcome_status, IsPeriodText, schedule_lines, IsScheduleText, IsFoundOrNever, IsSynthText, IsEmbedText, zero_lines, IsZeroText}
 use Rattle.cts_model.specs.declared.period.PeriodShow.TheVariants as shows
 use Rattle.cts_model.specs.declared.place.Point.{Point}
-use Rattle.cts_model.specs.declared.problem.Problem.{Problem}
-use Rattle.cts_model.specs.declared.report.Version.TheVariants.{First, Second}
-use Rattle.cts_model.specs.declared.tech.Tech.{Tech}
-use Rattle.cts_model.specs.declared.tree.Topology.{Topology}
-use Rattle.cts_model.specs.report.ReportBounds.{IsBetweenRegisters}
-use Rattle.cts_model.specs.report.ReportLines.{report_lines}
-use Rattle.cts_model.specs.text.PrintedLines.{Words, text_of, show_lines}
-use Rattle.cts_model.specs.timing.Cycles.{IsCycle}
-use Rattle.cts_model.specs.timing.LeastPeriods.{HasNoPeriod, IsForbidding, IsLeastFraction}
 use Rattle.cts_model.specs.tree.Problems.{grid_of}
 use Rattle.cts_model.proofs.CircuitConstraints.{forbidding_at_all}
-use Rattle.cts_model.proofs.PathRegisters.{tails_within}
 use Rattle.cts_model.proofs.ScaleLemmas.{size_same}
-use Rattle.corners.specs.declared.outcome.CornersOutcome.{CornersOutcome}
 use Rattle.corners.specs.declared.outcome.CornersOutcome.TheVariants as outcomes
 use Rattle.corners.specs.CommonPeriods.{HasNoCommonPeriod, IsLeastCommonPeriod}
-use Rattle.corners.specs.CornerCycles.{AreOfCorners, IsCommonShow}
-use Rattle.corners.specs.CornerOutcomes.{IsCornersOutcome}
 use Rattle.corners.proofs.OutcomeLemmas.{none_where_forbidden}
-use Rattle.command_line.specs.declared.table.Form.{Form}
 use Rattle.command_line.specs.declared.table.Form.TheVariants as forms
 use Rattle.move_session.specs.declared.moves.Move.{Move}
-use Rattle.outcomes.specs.declared.margin.MarginOutcome.{MarginOutcome}
 use Rattle.outcomes.specs.declared.margin.MarginOutcome.TheVariants as margins
 use Rattle.outcomes.specs.declared.period.PeriodOutcome.{PeriodOutcome}
 use Rattle.outcomes.specs.declared.period.PeriodOutcome.TheVariants as periods
 use Rattle.outcomes.specs.declared.scheduling.ScheduleOutcome.{ScheduleOutcome}
 use Rattle.outcomes.specs.declared.scheduling.ScheduleOutcome.TheVariants as schedules
-use Rattle.outcomes.specs.CircuitMargins.{IsMarginOutcome}
 use Rattle.outcomes.specs.PeriodOutcomes.{IsPeriodOutcome}
 use Rattle.outcomes.specs.ScheduleOutcomes.{period_outcome, IsScheduleOutcome}
 use Rattle.outcomes.proofs.JoiningCycles.{cycle_joins}
-use Rattle.report_text.specs.WireLines.{wire_line}
-use Rattle.report_text.proofs.ReportWords.{report_lines_are}
-use Rattle.answer_texts.specs.ArrivalTexts.{all_at_zero}
 use Rattle.answer_texts.specs.CheckTexts.{shown_line}
-use Rattle.answer_texts.specs.CornerTexts.{numbered_line_at, numbered_lines, common_show_lines, corners_lines, corners_status, IsCornersText}
-use Rattle.answer_texts.specs.DemoTexts.{summary_lines, IsSummaryText, IsDemoText}
-use Rattle.answer_texts.specs.Headline.{IsTreeText, IsSynthesisText, IsEmbeddingText}
-use Rattle.answer_texts.specs.MarginTexts.{margin_lines, IsMarginText}
 use Rattle.answer_texts.specs.MoveTexts.{AreWires, IsWiresText, IsMovesText, IsWireAt, moved_places}
-use Rattle.answer_texts.specs.PeriodTexts.{period_lines, never_lines, outcome_status, IsPeriodText}
-use Rattle.answer_texts.specs.ScheduleTexts.{schedule_lines, IsScheduleText}
-use Rattle.answer_texts.specs.SynthTexts.{IsFoundOrNever, IsSynthText, IsEmbedText}
-use Rattle.answer_texts.specs.ZeroTexts.{zero_lines, IsZeroText}
 use Rattle.answer_texts.proofs.CornerRegisters.{corners_among}
 use Rattle.answer_texts.proofs.CountedLines.{AreCounted, counted_none, counted_section, counted_line, counted_alone}
 use Rattle.answer_texts.proofs.CountedTexts.{looks_for_period, SaysOfPeriods, plan_of, plan_with, IsCounted, counted_looking, IsTextWith, IsTextOf}
@@ -204,8 +170,7 @@ module _ (problem : Problem) where
 
   -- what was found, or a cycle that forbids every period
   found_or_never : (moves : ℕ) (form : Form) → looks_for_period form ≡ true
-      → (Found : List ℕ → Type 0)
-      → ((text : List ℕ) → Found text → IsProblemText moves form 0 text)
+      → (Found : List ℕ → Type 0) → ((text : List ℕ) → Found text → IsProblemText moves form 0 text)
       → (status : ℕ) (text : List ℕ) → IsFoundOrNever problem Found status text
       → IsProblemText moves form status text
   found_or_never moves form looks Found found zero text says = found text says
@@ -247,8 +212,7 @@ module _ (problem : Problem) where
 
   -- there is a wire for the places as they are, and one for each move
   length-wires : (IsWireFor : List Point → ℤ → Type 0) (places : List Point) (moves : List Move)
-      (wires : List ℤ) → AreWires IsWireFor places moves wires
-      → length wires ≡ suc (length moves)
+      (wires : List ℤ) → AreWires IsWireFor places moves wires → length wires ≡ suc (length moves)
   length-wires IsWireFor places [] [] each = absurd each
   length-wires IsWireFor places [] (wire ∷ []) each = refl
   length-wires IsWireFor places [] (wire ∷ more ∷ wires) each = absurd each
@@ -283,8 +247,7 @@ module _ (problem : Problem) where
       }
 
   pub moves_text : (moves : List Move) (status : ℕ) (text : List ℕ)
-      → IsMovesText problem moves status text
-      → IsProblemText (length moves) forms.Moves status text
+      → IsMovesText problem moves status text → IsProblemText (length moves) forms.Moves status text
   moves_text moves = found_or_never (length moves) forms.Moves refl (IsWiresText problem moves)
       (wires_text moves)
 

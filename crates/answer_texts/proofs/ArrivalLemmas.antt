@@ -1,14 +1,8 @@
 -- Arrivals that can be printed.
-use Rattle.std.proofs.Common.{◌≡◌, ◌^◌, ℤ, arith}
-use Rattle.std.proofs.lemmas.Int.{ints}
-use Rattle.std.proofs.lemmas.List.Elements.{All-weaker}
-use Rattle.cts_base.specs.declared.fraction.Fraction.{Fraction}
+use Rattle.answer_texts.proofs.Vocabulary.{◌≡◌, ◌^◌, ℤ, arith, ints, All-weaker, Fraction, Schedule, AreSmallCommonTimes, CanPrint}
 use Rattle.cts_base.specs.Fractions.{HasSizeBelow}
-use Rattle.cts_model.specs.declared.schedule.Schedule.{Schedule}
 use Rattle.cts_model.specs.placement.Points.{IsBelow}
-use Rattle.corners.specs.CornerOutcomes.{AreSmallCommonTimes}
 use Rattle.safety_margin.specs.SparingSchedules.{IsSmallSparing}
-use Rattle.answer_texts.specs.ArrivalTexts.{CanPrint}
 
 -- what is below 2^93 is below 10^37
 printable : (number : ℤ) → IsBelow (2 ^ 93) number → HasSizeBelow (10 ^ 37) number

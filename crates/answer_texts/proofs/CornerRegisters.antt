@@ -1,12 +1,5 @@
 -- What a cycle of constraints of several corners names are registers of the circuit.
-use Rattle.std.proofs.Common.{◌≡◌, ◌<◌, zero, suc, ℕ, List, [], ◌∷◌, length, All, Option, Some, None, IsSomeAnd, get_or, slice_get, refl, subst, arith}
-use Rattle.cts_model.specs.declared.circuit.Circuit.{Circuit}
-use Rattle.cts_model.specs.declared.constraint.Constraint.{Constraint}
-use Rattle.cts_model.specs.declared.tech.Tech.{Tech}
-use Rattle.cts_model.specs.timing.Constraints.{IsConstraintOf}
-use Rattle.cts_model.specs.report.ReportBounds.{IsBetweenRegisters}
-use Rattle.cts_model.proofs.PathRegisters.{tail_within, head_within}
-use Rattle.corners.specs.CornerCycles.{IsConstraintIn, AreOfCorners}
+use Rattle.answer_texts.proofs.Vocabulary.{◌≡◌, ◌<◌, zero, suc, ℕ, List, [], ◌∷◌, length, All, Option, Some, None, IsSomeAnd, get_or, slice_get, refl, subst, arith, Circuit, Constraint, Tech, IsConstraintOf, IsBetweenRegisters, tail_within, head_within, IsConstraintIn, AreOfCorners}
 
 -- a constraint at a place is one, whatever is read past the end
 at_default : {X : Type 0} (xs : List X) (place : ℕ) (x y : X) → place < length xs

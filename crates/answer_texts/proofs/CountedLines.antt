@@ -1,9 +1,6 @@
 -- Lines of which some say how many stand after them, so that the lines of a text say where it ends.
-use Rattle.std.proofs.Common.{◌≡◌, ◌≤◌, ◌*◌, ℕ, List, [], ◌∷◌, ◌++◌, length, map, drop, get_or, refl, sym, ap, ◌∙◌, subst, length-append, arith}
+use Rattle.answer_texts.proofs.Vocabulary.{◌≡◌, ◌≤◌, ◌*◌, ℕ, List, [], ◌∷◌, ◌++◌, length, map, drop, get_or, refl, sym, ap, ◌∙◌, subst, length-append, arith, drop-append_seam, drop-append-le, Words}
 use Rattle.std.specs.Str.Parse.{digits_value}
-use Rattle.std.proofs.Math.Seq.{drop-append_seam}
-use Rattle.std.proofs.lemmas.List.{drop-append-le}
-use Rattle.cts_model.specs.text.PrintedLines.{Words}
 
 -- the number that a line has after its first word; a line of one word has 0
 abbrev pub number_in : Words → ℕ

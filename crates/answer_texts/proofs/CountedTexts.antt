@@ -1,12 +1,6 @@
 -- How the lines of each text are counted, and what its status says.
-use Rattle.std.proofs.Common.{◌≡◌, ◌<◌, ◌⊎◌, inl, inr, ℕ, zero, suc, Bool, true, false, List, [], ◌∷◌, ◌++◌, length, replicate}
-use Rattle.cts_model.specs.declared.circuit.Circuit.{Circuit}
-use Rattle.cts_model.specs.declared.report.Version.TheVariants.{Second}
-use Rattle.cts_model.specs.text.PrintedLines.{Words, text_of}
-use Rattle.command_line.specs.declared.table.Form.{Form}
+use Rattle.answer_texts.proofs.Vocabulary.{◌≡◌, ◌<◌, ◌⊎◌, inl, inr, ℕ, zero, suc, Bool, true, false, List, [], ◌∷◌, ◌++◌, length, replicate, Circuit, Second, Words, text_of, Form, HasNoPath, AreLines}
 use Rattle.command_line.specs.declared.table.Form.TheVariants as forms
-use Rattle.outcomes.specs.CircuitMargins.{HasNoPath}
-use Rattle.report_text.proofs.ReportWords.{AreLines}
 use Rattle.answer_texts.proofs.CountedLines.{AreCounted}
 use Rattle.answer_texts.proofs.LineCounts.{report_plan}
 

@@ -1,3 +1,4 @@
+mod Vocabulary
 pub mod CycleRegisters
 mod CornerRegisters
 mod LineLemmas

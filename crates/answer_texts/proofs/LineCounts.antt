@@ -1,33 +1,13 @@
 -- How the lines of each text are counted.
-use Rattle.std.proofs.Common.{◌≡◌, ◌<◌, ◌≤◌, ◌≢◌, ◌+◌, ◌*◌, ◌++◌, ℕ, suc, List, [], ◌∷◌, length, map, All, AllPairs, refl, sym, ap, ◌∙◌, subst, append-nil, append_assoc, length-append, codes, arith}
-use Rattle.std.proofs.lemmas.Bool.Decides.{Decides-eqb}
+use Rattle.answer_texts.proofs.Vocabulary.{◌≡◌, ◌<◌, ◌≤◌, ◌≢◌, ◌+◌, ◌*◌, ◌++◌, ℕ, suc, List, [], ◌∷◌, length, map, All, AllPairs, refl, sym, ap, ◌∙◌, subst, append-nil, append_assoc, length-append, codes, arith, Decides-eqb, length-map, All-map, All-contains, Fraction, Circuit, Constraint, PeriodShow, Cycle, Floor, Report, First, Second, Schedule, Slack, Tech, IsCycle, IsForbidding, IsPeriodShow, Words, count_line, line_for, cycle_lines, count_in, IsOfSize, pathed_lines, period_show_lines, lines_below, lead_line, merge_line_at, source_line, node_line_at, length_text, tree_lines, report_lines, tails_within, arrival_line, arrival_lines, never_lines}
 use Rattle.std.proofs.lemmas.Fmt.{decimal_is_IsNumeral}
-use Rattle.std.proofs.lemmas.List.{length-map}
-use Rattle.std.proofs.lemmas.List.Elements.{All-map, All-contains}
 use Rattle.std.proofs.lemmas.List.FromFn.{length-map-range_with_len}
 use Rattle.std.proofs.lemmas.List.Kept.{AllPairs-cons}
 use Rattle.std.proofs.lemmas.Map.Made.{IsDistinct-from_AllPairs}
 use Rattle.std.proofs.lemmas.Map.Views.{Contains-from_any}
 use Rattle.std.proofs.lemmas.Map.Steps.{length-le_from_distinct_below}
-use Rattle.cts_base.specs.declared.fraction.Fraction.{Fraction}
-use Rattle.cts_model.specs.declared.circuit.Circuit.{Circuit}
-use Rattle.cts_model.specs.declared.constraint.Constraint.{Constraint}
-use Rattle.cts_model.specs.declared.period.PeriodShow.{PeriodShow}
-use Rattle.cts_model.specs.declared.period.PeriodShow.TheVariants.{Cycle, Floor}
-use Rattle.cts_model.specs.declared.report.Report.{Report}
 use Rattle.cts_model.specs.declared.report.Version.{Version}
-use Rattle.cts_model.specs.declared.report.Version.TheVariants.{First, Second}
-use Rattle.cts_model.specs.declared.schedule.Schedule.{Schedule}
-use Rattle.cts_model.specs.declared.schedule.Slack.{Slack}
-use Rattle.cts_model.specs.declared.tech.Tech.{Tech}
-use Rattle.cts_model.specs.timing.Cycles.{IsCycle}
-use Rattle.cts_model.specs.timing.LeastPeriods.{IsForbidding, IsPeriodShow}
-use Rattle.cts_model.specs.text.PrintedLines.{Words, count_line, line_for, cycle_lines}
-use Rattle.cts_model.specs.report.ReportBounds.{count_in, IsOfSize}
-use Rattle.cts_model.specs.report.ReportLines.{pathed_lines, period_show_lines, lines_below, register_line_at, lead_line, merge_line_at, source_line, node_line_at, length_text, tree_lines, report_lines}
-use Rattle.cts_model.proofs.PathRegisters.{tails_within}
-use Rattle.answer_texts.specs.ArrivalTexts.{arrival_line, arrival_lines}
-use Rattle.answer_texts.specs.PeriodTexts.{never_lines}
+use Rattle.cts_model.specs.report.ReportLines.{register_line_at}
 use Rattle.answer_texts.specs.ScheduleTexts.{register_line_at as register_line_of, register_lines}
 use Rattle.answer_texts.proofs.CountedLines.{number_in, AreCounted, counted_none, counted_section, counted_line, counted_alone}
 
@@ -138,8 +118,7 @@ module _ (circuit : Circuit) (tech : Tech) where
   -- what shows a period
   pub counted_show : {rest : List Words} {plan : List ℕ} (version : Version) (period : Fraction)
       (shown : PeriodShow) (paths : List (List ℕ)) → IsPeriodShow circuit tech period shown
-      → AreCounted plan rest
-      → AreCounted (lines_each version ∷ plan)
+      → AreCounted plan rest → AreCounted (lines_each version ∷ plan)
       (period_show_lines version circuit shown paths ++ rest)
   counted_show First period (Cycle cycle) paths shows counted =
       counted_cycle circuit cycle

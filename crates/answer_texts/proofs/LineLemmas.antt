@@ -1,7 +1,5 @@
 -- A line of a constraint.
-use Rattle.std.proofs.Common.{◌≡◌, ◌++◌, ℕ, ℤ, List, Result, OnOk, subst}
-use Rattle.cts_model.specs.declared.circuit.Circuit.{Circuit}
-use Rattle.cts_model.specs.text.PrintedLines.{line_of, constraint_line}
+use Rattle.answer_texts.proofs.Vocabulary.{◌≡◌, ◌++◌, ℕ, ℤ, List, Result, OnOk, subst, Circuit, line_of, constraint_line}
 
 -- a line was appended, whose weight is this number
 pub weight_line : {T E : Type 0} (result : Result T E) (before now word : List ℕ)

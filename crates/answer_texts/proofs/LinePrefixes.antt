@@ -1,12 +1,5 @@
 -- A text of lines that are counted is no prefix of another such text.
-use Rattle.std.proofs.Common.{◌≡◌, ◌<◌, ◌==◌, ℕ, List, [], ◌∷◌, ◌++◌, length, take, drop, get_or, refl, sym, ap, ap₂, ◌∙◌, subst, append_assoc, append-nil, length-append, arith}
-use Rattle.std.specs.List.{AllByRecursion, join_with_byte, position_or_len}
-use Rattle.std.proofs.Math.Seq.{take-append_seam, drop-append_seam}
-use Rattle.std.proofs.lemmas.Bool.Decides.{nat_tests}
-use Rattle.std.proofs.lemmas.List.{length-take, take-append-drop}
-use Rattle.cts_model.specs.text.PrintedLines.{Words, text_of}
-use Rattle.report_text.proofs.OneLine.{IsWord, IsLine, one_text}
-use Rattle.report_text.proofs.ReportWords.{AreLines}
+use Rattle.answer_texts.proofs.Vocabulary.{◌≡◌, ◌<◌, ◌==◌, ℕ, List, [], ◌∷◌, ◌++◌, length, take, drop, get_or, refl, sym, ap, ap₂, ◌∙◌, subst, append_assoc, append-nil, length-append, arith, AllByRecursion, join_with_byte, position_or_len, take-append_seam, drop-append_seam, nat_tests, length-take, take-append-drop, Words, text_of, IsWord, IsLine, one_text, AreLines}
 use Rattle.answer_texts.proofs.CountedLines.{AreCounted, no_more}
 
 -- ---- one line

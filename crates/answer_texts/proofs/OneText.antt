@@ -1,7 +1,5 @@
 -- Two texts of one command have one status, and neither is a prefix of the other.
-use Rattle.std.proofs.Common.{◌≡◌, ◌<◌, ◌⊎◌, inl, inr, ℕ, Bool, true, false, List, length, take, ap, sym, ◌∙◌, subst, refl, arith}
-use Rattle.cts_model.specs.declared.circuit.Circuit.{Circuit}
-use Rattle.command_line.specs.declared.table.Form.{Form}
+use Rattle.answer_texts.proofs.Vocabulary.{◌≡◌, ◌<◌, ◌⊎◌, inl, inr, ℕ, Bool, true, false, List, length, take, ap, sym, ◌∙◌, subst, refl, arith, Circuit, Form}
 use Rattle.answer_texts.proofs.CountedTexts.{looks_for_period, SaysOfPeriods, IsCounted, one_plan, IsTextWith}
 use Rattle.answer_texts.proofs.LinePrefixes.{no_prefix, some_text_of}
 

@@ -1,12 +1,8 @@
 -- The text for an outcome is one that the command prints.
-use Rattle.std.proofs.Common.{◌≡◌, ℕ, List, [], sym, subst}
-use Rattle.cts_model.specs.declared.problem.Problem.{Problem}
-use Rattle.cts_model.specs.declared.tree.Topology.{Topology}
-use Rattle.cts_model.specs.text.PrintedLines.{text_of}
+use Rattle.answer_texts.proofs.Vocabulary.{◌≡◌, ℕ, List, [], sym, subst, Problem, Topology, text_of, synthesis_lines, synthesis_status, IsSynthText, IsEmbedText}
 use Rattle.outcomes.specs.declared.synthesis.Outcome.{Outcome}
 use Rattle.outcomes.specs.declared.synthesis.Outcome.TheVariants.{Done, Never}
 use Rattle.outcomes.specs.SynthesisOutcomes.{IsOutcome, IsOutcomeWith, BeginsLowest}
-use Rattle.answer_texts.specs.SynthTexts.{synthesis_lines, synthesis_status, IsSynthText, IsEmbedText}
 use Rattle.answer_texts.proofs.TreeTexts.{synthesis_spelled, embedding_spelled}
 
 -- an outcome is one by its own topology

@@ -1,36 +1,13 @@
 -- The lines of each text are lines, as those of reports are.
-use Rattle.std.proofs.Common.{ℕ, ℤ, pos, Bool, true, false, List, [], ◌∷◌, ◌++◌, ◌+◌, length, map, slice_index_or, codes, None, arith}
-use Rattle.std.specs.List.{range_with_len}
-use Rattle.cts_base.specs.declared.fraction.Fraction.{Fraction}
-use Rattle.cts_model.specs.declared.circuit.Circuit.{Circuit}
-use Rattle.cts_model.specs.declared.constraint.Constraint.{Constraint}
-use Rattle.cts_model.specs.declared.period.PeriodShow.{PeriodShow}
+use Rattle.answer_texts.proofs.Vocabulary.{ℕ, ℤ, pos, Bool, true, false, List, [], ◌∷◌, ◌++◌, ◌+◌, length, map, slice_index_or, codes, None, arith, range_with_len, Fraction, Circuit, Constraint, PeriodShow, Report, First, Schedule, Slack, Tech, cycle_lines, show_lines, wire_line, IsLine, AreLines, appended, mapped, constraint_is, count_is, shown_are, CornersOutcome, MarginOutcome, all_at_zero, arrival_line, arrival_lines, numbered_line, numbered_line_at, numbered_lines, common_show_lines, corners_lines, summary_lines, margin_lines, found_lines, never_lines, register_line_at, register_lines, zero_lines}
 use Rattle.cts_model.specs.declared.period.PeriodShow.TheVariants as shows
-use Rattle.cts_model.specs.declared.report.Report.{Report}
-use Rattle.cts_model.specs.declared.report.Version.TheVariants.{First}
-use Rattle.cts_model.specs.declared.schedule.Schedule.{Schedule}
-use Rattle.cts_model.specs.declared.schedule.Slack.{Slack}
-use Rattle.cts_model.specs.declared.tech.Tech.{Tech}
 use Rattle.cts_model.specs.declared.timing.ZeroSkew.{ZeroSkew}
 use Rattle.cts_model.specs.declared.timing.ZeroSkew.TheVariants.{Fails, Floor, Setup}
-use Rattle.cts_model.specs.text.PrintedLines.{cycle_lines, show_lines}
 use Rattle.cts_model.specs.timing.Schedules.{arrival_of}
-use Rattle.report_text.specs.WireLines.{wire_line}
-use Rattle.report_text.proofs.OneLine.{IsLine}
-use Rattle.report_text.proofs.ReportWords.{AreLines, appended, mapped, constraint_is, count_is, shown_are}
 use Rattle.report_text.proofs.WordBytes.{number_word, fraction_word, quotient_word, register_word, slack_word}
-use Rattle.corners.specs.declared.outcome.CornersOutcome.{CornersOutcome}
 use Rattle.corners.specs.declared.outcome.CornersOutcome.TheVariants as outcomes
 use Rattle.corners.specs.CornerLists.{constraint_at}
-use Rattle.outcomes.specs.declared.margin.MarginOutcome.{MarginOutcome}
 use Rattle.outcomes.specs.declared.margin.MarginOutcome.TheVariants as margins
-use Rattle.answer_texts.specs.ArrivalTexts.{all_at_zero, arrival_line, arrival_lines}
-use Rattle.answer_texts.specs.CornerTexts.{numbered_line, numbered_line_at, numbered_lines, common_show_lines, corners_lines}
-use Rattle.answer_texts.specs.DemoTexts.{summary_lines}
-use Rattle.answer_texts.specs.MarginTexts.{margin_lines}
-use Rattle.answer_texts.specs.PeriodTexts.{found_lines, never_lines}
-use Rattle.answer_texts.specs.ScheduleTexts.{register_line_at, register_lines}
-use Rattle.answer_texts.specs.ZeroTexts.{zero_lines}
 
 module _ (circuit : Circuit) where
   -- the lines of what shows a period

@@ -1,16 +1,9 @@
 -- A text that spells the report of a clock tree, and the summary of one.
-use Rattle.std.proofs.Common.{◌≡◌, ℕ, List, refl}
-use Rattle.cts_model.specs.declared.problem.Problem.{Problem}
-use Rattle.cts_model.specs.declared.report.Report.{Report}
-use Rattle.cts_model.specs.declared.tree.Topology.{Topology}
-use Rattle.cts_model.specs.text.PrintedLines.{text_of}
-use Rattle.cts_model.specs.report.ReportLines.{report_lines}
+use Rattle.answer_texts.proofs.Vocabulary.{◌≡◌, ℕ, List, refl, Problem, Report, Topology, text_of, report_lines, summary_lines, IsSummaryText, IsTreeText, IsSynthesisText, IsEmbeddingText}
 use Rattle.cert_check.specs.declared.verdict.Verdict.TheVariants.{Shown}
 use Rattle.cert_check.specs.Verdicts.{IsVerdict}
 use Rattle.outcomes.specs.Syntheses.{IsReportWith, IsReportOf}
 use Rattle.outcomes.specs.ShownCycles.{ShowsFromLowest}
-use Rattle.answer_texts.specs.DemoTexts.{summary_lines, IsSummaryText}
-use Rattle.answer_texts.specs.Headline.{IsTreeText, IsSynthesisText, IsEmbeddingText}
 
 module _ (problem : Problem) (report : Report) (lowest : ShowsFromLowest report.shown) where
   -- the lines of a report of the problem spell a clock tree for it

@@ -1,21 +1,8 @@
 -- What is taken in from a line whose names are all defined.
-use Rattle.std.proofs.Common.{◌≡◌, ℕ, nat_eq, List, [], ◌∷◌, ◌++◌, map, Option, Some, None, IsSome, IsSomeAnd, All, refl, sym, ap, ◌∙◌, subst, append_assoc, append-nil}
-use Rattle.std.specs.List.{filter_map}
-use Rattle.std.proofs.lemmas.List.{map_push}
-use Rattle.std.proofs.lemmas.List.Elements.{All-nil, All-cons, All-head, All-push, All-tail}
-use Rattle.cts_model.specs.netlist.Circuits.{registers_of}
-use Rattle.cts_model.specs.netlist.Statements.{Statement, Blank, Input, Output, Assign, Definition, statement_of, definition_of, mention_of}
-use Rattle.cts_model.specs.netlist.Definitions.{statements_in, definitions_in}
-use Rattle.cts_model.specs.netlist.Netlists.{signal_of, number_of, first_mentions}
-use Rattle.indexmap.specs.IndexSet.{insert_key}
-use Rattle.bench_reader.specs.declared.circuit_parts.CircuitParts.{CircuitParts}
-use Rattle.bench_reader.specs.Said.{unless_blank}
-use Rattle.bench_reader.specs.Taken.{HasParts}
-use Rattle.cts_model.proofs.RegisterLists.{filter_map_push_none, filter_map_push_some}
+use Rattle.bench_reader.proofs.Vocabulary.{◌≡◌, ℕ, nat_eq, List, [], ◌∷◌, ◌++◌, map, Option, Some, None, IsSome, IsSomeAnd, All, refl, sym, ap, ◌∙◌, subst, append_assoc, append-nil, filter_map, map_push, All-nil, All-cons, All-head, All-push, All-tail, registers_of, Statement, Blank, Input, Output, Assign, Definition, statement_of, definition_of, mention_of, statements_in, definitions_in, signal_of, number_of, first_mentions, insert_key, CircuitParts, unless_blank, HasParts, filter_map_push_none, filter_map_push_some, AreDefined, UsesDefined}
 use Rattle.bench_reader.proofs.LineStatements.{statements_push, definitions_push_some, definitions_push_none}
 use Rattle.bench_reader.proofs.PartLists.{mentions_push}
 use Rattle.bench_reader.proofs.SaidLemmas.{IsSilent}
-use Rattle.bench_reader.specs.Uses.{AreDefined, UsesDefined}
 
 module _ (names : List (List ℕ)) (line : List ℕ) (old new : CircuitParts) {earlier : List (List ℕ)}
     (has : HasParts names old earlier) (statement : Statement)
@@ -45,8 +32,7 @@ module _ (names : List (List ℕ)) (line : List ℕ) (old new : CircuitParts) {e
   -- a line with a definition
   pub defining_denoted : (definition : Definition) {fan_in : List ℕ}
       → definition_of statement ≡ Some definition → mention_of statement ≡ None
-      → UsesDefined names statement
-      → new.signals ≡ old.signals
+      → UsesDefined names statement → new.signals ≡ old.signals
       ++ record { name = definition.name; kind = definition.kind; fan_in = fan_in } ∷ []
       → fan_in ≡ filter_map (number_of names) definition.inputs
       → (old.registers ≡ registers_of old.signals → new.registers ≡ registers_of new.signals)
@@ -80,8 +66,7 @@ module _ (names : List (List ℕ)) (line : List ℕ) (old : CircuitParts) {earli
 
   -- a primary output with a number
   pub output_denoted : (new : CircuitParts) {name : List ℕ} → statement_of line ≡ Some (Output name)
-      → new.signals ≡ old.signals → new.registers ≡ old.registers
-      → IsSomeAnd (number_of names name)
+      → new.signals ≡ old.signals → new.registers ≡ old.registers → IsSomeAnd (number_of names name)
       (λ number. new.outputs.keys ≡ insert_key nat_eq old.outputs.keys number)
       → HasParts names new (earlier ++ line ∷ [])
   output_denoted new {name} form signals registers outputs = at (number_of names name) refl outputs

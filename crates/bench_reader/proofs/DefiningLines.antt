@@ -1,19 +1,7 @@
 -- What is wrong with one more line, and what it adds to the definitions so far.
-use Rattle.std.proofs.Common.{◌≡◌, ℕ, ◌+◌, cond, true, List, [], ◌∷◌, ◌++◌, length, Result, Ok, Err, Some, None, MatchResult, sym, ap, ◌∙◌, subst, arith}
-use Rattle.std.specs.List.{list_all}
-use Rattle.std.proofs.lemmas.List.{length-map, map_push}
-use Rattle.std.proofs.lemmas.List.Sums.{sum_by_push}
-use Rattle.cts_base.specs.LineFormats.{IsFaultOf}
-use Rattle.cts_model.specs.netlist.Kinds.{is_register}
-use Rattle.cts_model.specs.text.Names.{is_short}
-use Rattle.cts_model.specs.netlist.Statements.{Statement, Definition, statement_of, definition_of, names_of}
-use Rattle.cts_model.specs.netlist.Definitions.{definitions_in, defined_names, register_count, gate_inputs_of, gate_input_count}
+use Rattle.bench_reader.proofs.Vocabulary.{◌≡◌, ℕ, ◌+◌, cond, true, List, [], ◌∷◌, ◌++◌, length, Result, Ok, Err, Some, None, MatchResult, sym, ap, ◌∙◌, subst, arith, list_all, length-map, map_push, sum_by_push, IsFaultOf, is_register, is_short, Statement, Definition, statement_of, definition_of, names_of, definitions_in, defined_names, register_count, gate_inputs_of, gate_input_count, BenchFault, NoMemory, HasDefinitions, Adds, excess_after, fault_after, has_kind, has_valid_inputs, definition_excess, fault_of}
 use Rattle.bench_reader.specs.declared.definitions.Definitions.{Definitions}
-use Rattle.bench_reader.specs.declared.fault.BenchFault.{BenchFault}
-use Rattle.bench_reader.specs.declared.fault.BenchFault.TheVariants.{NoMemory}
-use Rattle.bench_reader.specs.Taken.{HasDefinitions, Adds, excess_after, fault_after}
 use Rattle.bench_reader.proofs.LineStatements.{definitions_push_some, definitions_push_none}
-use Rattle.bench_reader.specs.Faults.{has_kind, has_valid_inputs, definition_excess, fault_of}
 
 module _ (earlier : List (List ℕ)) (line : List ℕ) (statement : Statement)
     (form : statement_of line ≡ Some statement) where
@@ -89,15 +77,13 @@ module _ (earlier : List (List ℕ)) (line : List ℕ) (statement : Statement)
 
       -- so a judgement by the counts is one of the line
       pub defining_adds : {T : Type 0} {old : Definitions} (number : ℕ) (new : Definitions)
-          (result : Result T BenchFault)
-          → MatchResult result
+          (result : Result T BenchFault) → MatchResult result
           (λ _. (fault_after number old definition.name definition.kind (length definition.inputs)
           (list_all is_short (names_of statement)) ≡ None)
           × Adds old new definition.name definition.kind (length definition.inputs))
           (IsFaultOf NoMemory (fault_after number old definition.name definition.kind
           (length definition.inputs) (list_all is_short (names_of statement))))
-          → HasDefinitions old earlier → number ≡ length earlier + 1
-          → MatchResult result
+          → HasDefinitions old earlier → number ≡ length earlier + 1 → MatchResult result
           (λ _. (fault_of earlier line ≡ None) × HasDefinitions new (earlier ++ line ∷ []))
           (IsFaultOf NoMemory (fault_of earlier line))
       defining_adds number new (Ok done) judged has here =

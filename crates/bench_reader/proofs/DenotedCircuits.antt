@@ -1,27 +1,14 @@
 -- What the circuit is whose parts the lines tell.
-use Rattle.std.proofs.Common.{◌≡◌, ℕ, ◌<◌, ◌==◌, if◌then◌else◌, Option, Some, None, inl, inr, List, length, map, ap, ◌∙◌, subst, arith}
-use Rattle.std.specs.List.{filter_map}
-use Rattle.std.specs.Option.{option_or}
+use Rattle.bench_reader.proofs.Vocabulary.{◌≡◌, ℕ, ◌<◌, ◌==◌, if◌then◌else◌, Option, Some, None, inl, inr, List, length, map, ap, ◌∙◌, subst, arith, filter_map, option_or, IsFaultOf, first_fault, lines_of, IsCircuit, registers_of, definition_of, mention_of, statements_in, definitions_in, register_count, names_in, signal_of, BenchFault, CircuitParts, fault_of, netlist_fault, use_fault, HasParts, DenotesCircuit, UsesDefined}
 use Rattle.std.proofs.lemmas.Bool.{eq-eqb, ne_eqb}
-use Rattle.cts_base.specs.LineFormats.{IsFaultOf, first_fault}
-use Rattle.cts_base.specs.Lines.{lines_of}
 use Rattle.cts_model.specs.declared.circuit.Circuit.{Circuit}
-use Rattle.cts_model.specs.netlist.Circuits.{IsCircuit, registers_of}
 use Rattle.cts_model.specs.netlist.Hosts.{HasNoHost}
-use Rattle.cts_model.specs.netlist.Statements.{definition_of, mention_of}
-use Rattle.cts_model.specs.netlist.Definitions.{statements_in, definitions_in, register_count}
-use Rattle.cts_model.specs.netlist.Netlists.{names_in, signal_of}
-use Rattle.bench_reader.specs.declared.fault.BenchFault.{BenchFault}
 use Rattle.bench_reader.specs.declared.fault.BenchFault.TheVariants as faults
-use Rattle.bench_reader.specs.declared.circuit_parts.CircuitParts.{CircuitParts}
-use Rattle.bench_reader.specs.Faults.{fault_of, netlist_fault, use_fault}
-use Rattle.bench_reader.specs.Taken.{HasParts, DenotesCircuit}
 use Rattle.bench_reader.proofs.Lists.{All-filter_map}
 use Rattle.bench_reader.proofs.UseFaults.{none_undefined}
 use Rattle.bench_reader.proofs.ValidDefinitions.{valid_lines}
 use Rattle.bench_reader.proofs.Hostless.{hostless_lines, has_host-lines}
 use Rattle.bench_reader.proofs.NetlistCircuits.{HasDefinedInputs, inputs_defined, length-registers_of, circuit_from}
-use Rattle.bench_reader.specs.Uses.{UsesDefined}
 
 module _ (text : List ℕ) (names : List (List ℕ)) (parts : CircuitParts)
     (flawless : first_fault fault_of text ≡ None) (known : names ≡ names_in text)

@@ -1,12 +1,5 @@
 -- The numbers of the names that a signal reads, one after the other.
-use Rattle.std.proofs.Common.{◌≡◌, ℕ, List, [], ◌∷◌, ◌++◌, Some, IsSome, All, refl, sym, ap, ◌∙◌, subst, append_assoc, append-nil}
-use Rattle.std.specs.List.{filter_map}
-use Rattle.std.proofs.lemmas.List.Elements.{All-push}
-use Rattle.cts_model.specs.netlist.Netlists.{number_of}
-use Rattle.cts_model.specs.netlist.Statements.{Statement, uses_of}
-use Rattle.cts_model.proofs.RegisterLists.{filter_map_push_some}
-use Rattle.bench_reader.specs.declared.fault.BenchFault.{BenchFault}
-use Rattle.bench_reader.specs.Uses.{IsUseFault}
+use Rattle.bench_reader.proofs.Vocabulary.{◌≡◌, ℕ, List, [], ◌∷◌, ◌++◌, Some, IsSome, All, refl, sym, ap, ◌∙◌, subst, append_assoc, append-nil, filter_map, All-push, number_of, Statement, uses_of, filter_map_push_some, BenchFault, IsUseFault}
 
 -- the name has a number
 abbrev IsNumbered : List (List ℕ) → List ℕ → Type 0

@@ -1,14 +1,6 @@
 -- What a line without a fault says.
-use Rattle.std.proofs.Common.{◌≡◌, ◌+◌, ℕ, length, Bool, true, false, not, if◌then◌else◌, List, Option, Some, None, refl}
-use Rattle.std.specs.Option.{option_map, option_and_then, option_map_or}
-use Rattle.std.specs.List.{list_all}
-use Rattle.cts_model.specs.text.Names.{is_short}
-use Rattle.cts_model.specs.netlist.Statements.{Statement, Definition, statement_of, definition_of, names_of}
-use Rattle.cts_model.specs.netlist.Definitions.{definitions_in}
-use Rattle.bench_reader.specs.Faults.{has_kind, has_valid_inputs, is_defined_before, definition_excess, fault_of, statement_fault}
-use Rattle.bench_reader.specs.declared.fault.Which.TheVariants.{Name}
+use Rattle.bench_reader.proofs.Vocabulary.{◌≡◌, ◌+◌, ℕ, length, Bool, true, false, not, if◌then◌else◌, List, Option, Some, None, refl, option_map, option_and_then, option_map_or, list_all, is_short, Statement, Definition, statement_of, definition_of, names_of, definitions_in, has_kind, has_valid_inputs, is_defined_before, definition_excess, fault_of, statement_fault, Name, BadLine, UnknownKind, WrongInputs, SignalTwice, TooLarge}
 use Rattle.bench_reader.specs.declared.fault.Which.{Which}
-use Rattle.bench_reader.specs.declared.fault.BenchFault.TheVariants.{BadLine, UnknownKind, WrongInputs, SignalTwice, TooLarge}
 
 -- nothing is wrong with a statement after these definitions
 pub record IsSound (earlier : List Definition) (statement : Statement) : Type 0 where
@@ -41,8 +33,7 @@ sound_statement number earlier statement =
         → (if not kind then Some (UnknownKind number) else if not inputs then Some
         (WrongInputs number) else if twice
         then Some (SignalTwice number) else option_map (TooLarge number)
-        (if short then excess else Some Name)) ≡ None
-        → IsSound earlier statement
+        (if short then excess else Some Name)) ≡ None → IsSound earlier statement
     at false inputs twice short excess k i t s e none = cc none
     at true false twice short excess k i t s e none = cc none
     at true true true short excess k i t s e none = cc none
@@ -58,8 +49,7 @@ sound_line earlier line = at (statement_of line) refl
   where
     at : (o : Option Statement) → statement_of line ≡ o
         → option_map_or (statement_fault (length earlier + 1) (definitions_in earlier)) o
-        (Some (BadLine (length earlier + 1))) ≡ None
-        → IsSoundLine earlier line
+        (Some (BadLine (length earlier + 1))) ≡ None → IsSoundLine earlier line
     at None form none = cc none
     at (Some statement) form none = record {
       statement = statement;

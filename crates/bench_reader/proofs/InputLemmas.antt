@@ -1,11 +1,5 @@
 -- The names of a list of inputs, and how they stand among its tokens.
-use Rattle.std.proofs.Common.{ℕ, suc, if◌then◌else◌, ◌≡◌, ◌≤◌, Bool, true, false, List, [], ◌∷◌, length, Option, Some, None, IfSome, refl, ap, arith}
-use Rattle.std.specs.Option.{option_map}
-use Rattle.cts_base.specs.Words.{is_blank}
-use Rattle.cts_model.specs.text.Names.{is_name_byte}
-use Rattle.cts_model.specs.text.Tokens.{Token, Word, Close, Comma, begins_with_name_byte, mark_of, onto_word, tokens_of}
-use Rattle.cts_model.specs.netlist.Statements.{inputs_of, more_inputs_of}
-use Rattle.bench_reader.specs.Inputs.{words_in}
+use Rattle.bench_reader.proofs.Vocabulary.{ℕ, suc, if◌then◌else◌, ◌≡◌, ◌≤◌, Bool, true, false, List, [], ◌∷◌, length, Option, Some, None, IfSome, refl, ap, arith, option_map, is_blank, is_name_byte, Token, Word, Close, Comma, begins_with_name_byte, mark_of, onto_word, tokens_of, inputs_of, more_inputs_of, words_in}
 
 -- a name before the words
 onto_words : (name : List ℕ) (words : List (List ℕ)) (more : Option (List (List ℕ)))

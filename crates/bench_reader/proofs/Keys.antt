@@ -1,13 +1,7 @@
 -- Names as the keys of a set: looking them up by their bytes.
-use Rattle.std.proofs.Common.{◌≡◌, ℕ, ◌+◌, Bool, false, not, cond, List, [], ◌∷◌, ◌++◌, map, Contains, position, refl, ap, arith}
-use Rattle.std.specs.Str.{bytes_eq}
-use Rattle.std.specs.List.{list_any, position_or_len}
+use Rattle.bench_reader.proofs.Vocabulary.{◌≡◌, ℕ, ◌+◌, Bool, false, not, cond, List, [], ◌∷◌, ◌++◌, map, Contains, position, refl, ap, arith, bytes_eq, list_any, position_or_len, length-map, map_push, list_any-map, insert_key, number_of}
 use Rattle.std.specs.Cmp.Lexicographic.{nat_list_eq_equiv}
-use Rattle.std.proofs.lemmas.List.{length-map, map_push}
 use Rattle.std.proofs.lemmas.Map.Views.{list_any-from_Contains}
-use Rattle.cts_base.proofs.ListTests.{list_any-map}
-use Rattle.indexmap.specs.IndexSet.{insert_key}
-use Rattle.cts_model.specs.netlist.Netlists.{number_of}
 
 module _ {X Y : Type 0} (f : X → Y) (test : Y → Bool) where
   -- so many items before the first that passes

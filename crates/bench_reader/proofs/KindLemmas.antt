@@ -1,9 +1,5 @@
 -- A table of words and kinds, and the kind that the first word of it with another's letters names.
-use Rattle.std.proofs.Common.{ℕ, ◌≡◌, Bool, true, false, if◌then◌else◌, List, [], ◌∷◌, Option, Some, None, Bor, refl}
-use Rattle.std.specs.List.{find}
-use Rattle.std.specs.Option.{option_map}
-use Rattle.std.specs.Str.{str_eq_ignore_ascii_case}
-use Rattle.cts_model.specs.declared.kind.Kind.{Kind}
+use Rattle.bench_reader.proofs.Vocabulary.{ℕ, ◌≡◌, Bool, true, false, if◌then◌else◌, List, [], ◌∷◌, Option, Some, None, Bor, refl, find, option_map, str_eq_ignore_ascii_case, Kind}
 
 -- the kind at the first word that is the given one in any ASCII case
 abbrev pub kind_at : List (Bor (List ℕ) × Kind) → List ℕ → Option Kind
@@ -21,8 +17,7 @@ kind_at-find (row ∷ rows) word =
   where
     at : (same : Bool)
         → option_map (λ row. row.1) (find (λ row. str_eq_ignore_ascii_case word row.0.now) rows)
-        ≡ kind_at rows word
-        → option_map (λ row. row.1)
+        ≡ kind_at rows word → option_map (λ row. row.1)
         (if same then Some row else find (λ row. str_eq_ignore_ascii_case word row.0.now) rows)
         ≡ (if same then Some row.1 else kind_at rows word)
     at true rest = refl

@@ -1,3 +1,4 @@
+mod Vocabulary
 mod AddedParts
 mod DefiningLines
 mod SaidLemmas

@@ -1,10 +1,5 @@
 -- The statements and definitions of lines, and how one more line adds to them.
-use Rattle.std.proofs.Common.{◌≡◌, ℕ, List, [], ◌∷◌, ◌++◌, Some, None, All, ap, ◌∙◌, arith}
-use Rattle.std.specs.List.{filter_map, cons_option}
-use Rattle.std.proofs.lemmas.List.Elements.{All-contains, filter_map-append, Contains-append_right, Contains-get_or}
-use Rattle.cts_model.specs.netlist.Statements.{Statement, Definition, statement_of, definition_of}
-use Rattle.cts_model.specs.netlist.Definitions.{statements_in, definitions_in}
-use Rattle.cts_model.proofs.RegisterLists.{filter_map_push_none, filter_map_push_some}
+use Rattle.bench_reader.proofs.Vocabulary.{◌≡◌, ℕ, List, [], ◌∷◌, ◌++◌, Some, None, All, ap, ◌∙◌, arith, filter_map, cons_option, All-contains, filter_map-append, Contains-append_right, Contains-get_or, Statement, Definition, statement_of, definition_of, statements_in, definitions_in, filter_map_push_none, filter_map_push_some}
 
 module _ (earlier : List (List ℕ)) (line : List ℕ) {statement : Statement} where
   -- one more line, with its statement

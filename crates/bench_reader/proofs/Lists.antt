@@ -1,8 +1,5 @@
 -- Lists that grow at their end.
-use Rattle.std.proofs.Common.{◌≡◌, zero, suc, get_or, AllPairs, IsSome, List, [], ◌∷◌, length, Option, Some, None, IfSome, All, refl, sym, ap, subst, arith, map}
-use Rattle.std.specs.List.{filter_map, cons_option}
-use Rattle.std.proofs.lemmas.List.Elements.{All-nil, All-cons, All-head, All-tail}
-use Rattle.std.proofs.lemmas.List.{length-map, get_or-map}
+use Rattle.bench_reader.proofs.Vocabulary.{◌≡◌, zero, suc, get_or, AllPairs, IsSome, List, [], ◌∷◌, length, Option, Some, None, IfSome, All, refl, sym, ap, subst, arith, map, filter_map, cons_option, All-nil, All-cons, All-head, All-tail, length-map, get_or-map}
 
 module _ {X Y : Type 0} (pick : X → Option Y) where
   -- what is picked from the items has P, where it has from each

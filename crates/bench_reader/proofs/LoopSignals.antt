@@ -1,10 +1,5 @@
 -- The numbers in a ring of gates are numbers of signals.
-use Rattle.std.proofs.Common.{◌≡◌, ◌<◌, ℕ, List, [], ◌∷◌, length, Option, Some, None, All, IsTrue, IsSomeAnd, Contains, refl}
-use Rattle.std.specs.List.{slice_get}
-use Rattle.std.proofs.lemmas.Option.{slice_get_within}
-use Rattle.std.proofs.lemmas.List.Elements.{All-nil, All-cons}
-use Rattle.cts_model.specs.declared.signal.Signal.{Signal}
-use Rattle.cts_model.specs.netlist.Kinds.{is_gate}
+use Rattle.bench_reader.proofs.Vocabulary.{◌≡◌, ◌<◌, ℕ, List, [], ◌∷◌, length, Option, Some, None, All, IsTrue, IsSomeAnd, Contains, refl, slice_get, slice_get_within, All-nil, All-cons, Signal, is_gate}
 use Rattle.cts_model.specs.netlist.Paths.{Reads, Follows, IsLoop}
 
 -- a gate that reads is one

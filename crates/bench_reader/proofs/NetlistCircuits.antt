@@ -1,24 +1,9 @@
 -- The circuit that a netlist denotes keeps what a circuit is to keep.
-use Rattle.std.proofs.Common.{◌≡◌, ◌≢◌, ℕ, ◌+◌, ◌<◌, Bool, true, false, not, cond, if◌then◌else◌, ◌==◌, List, [], ◌∷◌, length, map, Option, Some, None, IfSome, IsSome, All, AllPairs, IsTrue, get_or, refl, sym, ap, ◌∙◌, arith}
-use Rattle.std.specs.List.{filter_map, enumerate_from, sum_by}
-use Rattle.std.specs.Option.{option_map}
-use Rattle.std.specs.Str.{bytes_eq}
-use Rattle.std.proofs.lemmas.Bool.Decides.{nat_tests}
-use Rattle.std.proofs.lemmas.List.{length-map}
-use Rattle.std.proofs.lemmas.List.Sums.{sum_by-cons}
-use Rattle.std.proofs.lemmas.List.Elements.{All-nil, All-cons, All-head, All-tail, All-map, All-filter, All-weaker, filter_passes}
-use Rattle.std.proofs.lemmas.List.Quantifiers.{position-Some}
+use Rattle.bench_reader.proofs.Vocabulary.{◌≡◌, ◌≢◌, ℕ, ◌+◌, ◌<◌, Bool, true, false, not, cond, if◌then◌else◌, ◌==◌, List, [], ◌∷◌, length, map, Option, Some, None, IfSome, IsSome, All, AllPairs, IsTrue, get_or, refl, sym, ap, ◌∙◌, arith, filter_map, enumerate_from, sum_by, option_map, bytes_eq, nat_tests, length-map, sum_by-cons, All-nil, All-cons, All-head, All-tail, All-map, All-filter, All-weaker, filter_passes, position-Some, Kind, is_register, is_gate, is_host, is_valid, kind_of, IsCircuit, is_named, register_number, registers_of, gate_inputs, Statement, Blank, Input, Output, Assign, Definition, definition_of, defined_names, register_count, gate_inputs_of, gate_input_count, number_of, signal_of, first_mentions, UsesDefined}
 use Rattle.std.proofs.lemmas.List.Kept.{AllPairs-filter}
-use Rattle.cts_model.specs.declared.kind.Kind.{Kind}
-use Rattle.cts_model.specs.netlist.Kinds.{is_register, is_gate, is_host, is_valid, kind_of}
-use Rattle.cts_model.specs.netlist.Circuits.{IsCircuit, is_named, register_number, registers_of, gate_inputs}
-use Rattle.cts_model.specs.netlist.Statements.{Statement, Blank, Input, Output, Assign, Definition, definition_of}
-use Rattle.cts_model.specs.netlist.Definitions.{defined_names, register_count, gate_inputs_of, gate_input_count}
-use Rattle.cts_model.specs.netlist.Netlists.{number_of, signal_of, first_mentions}
 use Rattle.bench_reader.proofs.Lists.{All-filter_map, length-filter_map, AllPairs-map, AllPairs-cons}
 use Rattle.bench_reader.proofs.ValidDefinitions.{AreValid}
 use Rattle.bench_reader.proofs.Hostless.{IsHostless, no_host}
-use Rattle.bench_reader.specs.Uses.{UsesDefined}
 
 -- a name's number is below the count of the names
 number_within : (names : List (List ℕ)) (name : List ℕ)

@@ -1,7 +1,5 @@
 -- A netlist has no fault.
-use Rattle.std.proofs.Common.{◌∙◌, ℕ, List, inl, inr, sym}
-use Rattle.bench_reader.specs.declared.fault.BenchFault.{BenchFault}
-use Rattle.bench_reader.specs.Netlists.{IsNetlist, RefusesNetlist}
+use Rattle.bench_reader.proofs.Vocabulary.{◌∙◌, ℕ, List, inl, inr, sym, BenchFault, IsNetlist, RefusesNetlist}
 
 pub no_fault : (text : List ℕ) (fault : BenchFault) → IsNetlist text → RefusesNetlist text fault
     → ⊥

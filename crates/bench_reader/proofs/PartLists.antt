@@ -1,14 +1,5 @@
 -- The registers and the first mentions, where one more comes.
-use Rattle.std.proofs.Common.{◌≡◌, ℕ, Bool, true, false, not, if◌then◌else◌, ◌||◌, ◌==◌, nat_eq, List, [], ◌∷◌, ◌++◌, length, filter, refl, sym, ap, ◌∙◌, arith, append-nil}
-use Rattle.std.specs.List.{list_any}
-use Rattle.std.proofs.lemmas.Bool.Decides.{nat_tests}
-use Rattle.std.proofs.lemmas.List.Elements.{filter-append}
-use Rattle.cts_model.specs.declared.signal.Signal.{Signal}
-use Rattle.cts_model.specs.netlist.Kinds.{is_register}
-use Rattle.cts_model.specs.netlist.Circuits.{registers_of}
-use Rattle.cts_model.specs.netlist.Netlists.{first_mentions}
-use Rattle.cts_model.proofs.RegisterLists.{registers_push_none, registers_push_some}
-use Rattle.indexmap.specs.IndexSet.{insert_key}
+use Rattle.bench_reader.proofs.Vocabulary.{◌≡◌, ℕ, Bool, true, false, not, if◌then◌else◌, ◌||◌, ◌==◌, nat_eq, List, [], ◌∷◌, ◌++◌, length, filter, refl, sym, ap, ◌∙◌, arith, append-nil, list_any, nat_tests, filter-append, Signal, is_register, registers_of, first_mentions, registers_push_none, registers_push_some, insert_key}
 
 module _ (old : List Signal) {new : List Signal} (signal : Signal) {registers : List ℕ}
     (grown : new ≡ old ++ signal ∷ []) (are : registers ≡ registers_of old) where
@@ -53,8 +44,7 @@ mentions_push (number ∷ numbers) last =
   where
     -- a new number is put last on both sides, or found on both
     put : (found : Bool) → list_any (nat_eq last) (first_mentions numbers) ≡ found
-        → nat_eq last number ≡ false
-        → number ∷ filter (differs number)
+        → nat_eq last number ≡ false → number ∷ filter (differs number)
         (if found then (first_mentions numbers) else (first_mentions numbers) ++ last ∷ [])
         ≡ (if found then number ∷ filter (differs number)
         (first_mentions numbers) else (number ∷ filter (differs number) (first_mentions numbers))

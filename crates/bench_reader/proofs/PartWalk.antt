@@ -1,28 +1,12 @@
 -- The walk that takes in what each line says, where the names of all lines are known.
-use Rattle.std.proofs.Common.{◌≡◌, ℕ, suc, ◌+◌, ◌<◌, ◌≤◌, true, drop, get_or, List, [], ◌∷◌, ◌++◌, length, Some, None, ap, refl, sym, ◌∙◌, subst, arith, length-append, append_assoc}
-use Rattle.std.specs.List.{filter_map}
+use Rattle.bench_reader.proofs.Vocabulary.{◌≡◌, ℕ, suc, ◌+◌, ◌<◌, ◌≤◌, true, drop, get_or, List, [], ◌∷◌, ◌++◌, length, Some, None, ap, refl, sym, ◌∙◌, subst, arith, length-append, append_assoc, filter_map, get_or-map, length-map, length_push, filter_map-append, first_fault, first_fault_after, lines_of, flawless_at, Statement, statement_of, definition_of, statements_in, definitions_in, signal_of, CircuitParts, Undefined, IsReading, kept_of, said_in, HasParts, said_by, fault_of, has_kind, use_fault, UsesDefined}
 use Rattle.std.proofs.Math.Seq.{drop-cons}
-use Rattle.std.proofs.lemmas.List.{get_or-map, length-map, length_push}
-use Rattle.std.proofs.lemmas.List.Elements.{filter_map-append}
-use Rattle.cts_base.specs.LineFormats.{first_fault, first_fault_after}
-use Rattle.cts_base.specs.Lines.{lines_of}
-use Rattle.cts_base.proofs.LineFaults.{flawless_at}
-use Rattle.cts_model.specs.netlist.Statements.{Statement, statement_of, definition_of}
-use Rattle.cts_model.specs.netlist.Definitions.{statements_in, definitions_in}
-use Rattle.cts_model.specs.netlist.Netlists.{signal_of}
-use Rattle.bench_reader.specs.declared.circuit_parts.CircuitParts.{CircuitParts}
-use Rattle.bench_reader.specs.declared.fault.BenchFault.TheVariants.{Undefined}
 use Rattle.bench_reader.specs.declared.said.Said.{Said}
-use Rattle.bench_reader.specs.Said.{IsReading, kept_of, said_in}
-use Rattle.bench_reader.specs.Taken.{HasParts}
-use Rattle.bench_reader.specs.View.{said_by}
 use Rattle.bench_reader.proofs.AddedParts.{silents_denoted}
 use Rattle.bench_reader.proofs.FlawlessLines.{sound_line}
 use Rattle.bench_reader.proofs.SaidLemmas.{IsNextSaid, all_silent, next_said}
 use Rattle.bench_reader.proofs.UseFaults.{undefined_first}
 use Rattle.bench_reader.proofs.ValidDefinitions.{valid_lines}
-use Rattle.bench_reader.specs.Faults.{fault_of, has_kind, use_fault}
-use Rattle.bench_reader.specs.Uses.{UsesDefined}
 
 -- this is what the lines so far tell, and this is left of what lines say
 pub record DenotesPassed (text : List ℕ) (names : List (List ℕ)) (left : List (ℕ × Statement))
@@ -39,8 +23,7 @@ kept_length said = length-map said (λ one. (one.number, said_by one.statement))
 
 -- what is left begins with what is said at the next place
 pub left_next : (said : List Said) (place : ℕ) (one : Said) → place < length said
-    → one ≡ get_or said place one
-    → drop place (kept_of said)
+    → one ≡ get_or said place one → drop place (kept_of said)
     ≡ (one.number, said_by one.statement) ∷ drop (place + 1) (kept_of said)
 left_next said place one within is =
     let kept : Said → ℕ × Statement = λ o. (o.number, said_by o.statement) in

@@ -1,10 +1,5 @@
 -- What lines say one after the other: one more line, and the next that isn't blank.
-use Rattle.std.proofs.Common.{◌≡◌, ◌+◌, ℕ, suc, List, [], ◌∷◌, ◌++◌, length, Option, Some, None, All, refl, sym, ap, ◌∙◌, arith}
-use Rattle.std.specs.Option.{option_map, option_to_list}
-use Rattle.std.specs.List.{cons_option}
-use Rattle.std.proofs.lemmas.List.Elements.{All-nil, All-cons}
-use Rattle.cts_model.specs.netlist.Statements.{Statement, Blank, Input, Output, Assign, statement_of}
-use Rattle.bench_reader.specs.Said.{numbered_statement, said_in, unless_blank}
+use Rattle.bench_reader.proofs.Vocabulary.{◌≡◌, ◌+◌, ℕ, suc, List, [], ◌∷◌, ◌++◌, length, Option, Some, None, All, refl, sym, ap, ◌∙◌, arith, option_map, option_to_list, cons_option, All-nil, All-cons, Statement, Blank, Input, Output, Assign, statement_of, numbered_statement, said_in, unless_blank}
 
 -- an item that may be there stands before more of a list
 cons_option-append : {X : Type 0} (o : Option X) (xs ys : List X)
@@ -69,8 +64,7 @@ next_said number (line ∷ lines) place statement more is =
         → IsNextSaid (number + 1) lines place statement more) → (o : Option Statement)
         → unless_blank (statement_of line) ≡ o
         → cons_option (option_map (λ s. (number, s)) o) (said_in (number + 1) lines)
-        ≡ (place, statement) ∷ more
-        → IsNextSaid number (line ∷ lines) place statement more
+        ≡ (place, statement) ∷ more → IsNextSaid number (line ∷ lines) place statement more
     at beyond None silent is =
         let next = beyond is in
         record {

@@ -1,11 +1,5 @@
 -- The names of signals, one after the other.
-use Rattle.std.proofs.Common.{◌≡◌, ◌<◌, ◌+◌, ℕ, List, [], ◌∷◌, ◌++◌, length, map, take, get_or, Some, sym, ap, ◌∙◌}
-use Rattle.std.specs.Option.{option_map_or}
-use Rattle.std.specs.List.{slice_get}
-use Rattle.std.proofs.lemmas.Option.{slice_get-get_or}
-use Rattle.std.proofs.lemmas.List.{take_more, map_push}
-use Rattle.cts_model.specs.declared.signal.Signal.{Signal}
-use Rattle.bench_reader.specs.Netlists.{names_of_signals}
+use Rattle.bench_reader.proofs.Vocabulary.{◌≡◌, ◌<◌, ◌+◌, ℕ, List, [], ◌∷◌, ◌++◌, length, map, take, get_or, Some, sym, ap, ◌∙◌, option_map_or, slice_get, slice_get-get_or, take_more, map_push, Signal, names_of_signals}
 
 module _ (signals : List Signal) (numbers : List ℕ) where
   -- the name of the signal of a number

@@ -1,16 +1,5 @@
 -- The names of a statement are names: one or more of a name's bytes.
-use Rattle.std.proofs.Common.{◌≡◌, ℕ, nat_eq, if◌then◌else◌, codes, Bool, true, false, ◌&&◌, List, [], ◌∷◌, Option, Some, None, IfSome, IsTrue, refl, ap, subst, arith}
-use Rattle.std.specs.List.{list_all}
-use Rattle.std.specs.Option.{option_map}
-use Rattle.std.specs.Str.{str_eq_ignore_ascii_case}
-use Rattle.std.proofs.lemmas.Option.{same_Some}
-use Rattle.std.proofs.lemmas.Bool.Decides.{nat_tests}
-use Rattle.cts_base.specs.Words.{is_blank, before_hash}
-use Rattle.cts_model.specs.declared.kind.Kind.{Kind}
-use Rattle.cts_model.specs.netlist.Kinds.{kind_of}
-use Rattle.cts_model.specs.text.Names.{is_name_byte, is_name, is_short}
-use Rattle.cts_model.specs.text.Tokens.{Token, Word, Open, Close, Comma, Equals, Stray, tokens_of, mark_of, onto_word, begins_with_name_byte}
-use Rattle.cts_model.specs.netlist.Statements.{Statement, Blank, Input, Output, Assign, Definition, statement_of, form_of, inputs_of, more_inputs_of, declaration_of, definition_of, names_of}
+use Rattle.bench_reader.proofs.Vocabulary.{◌≡◌, ℕ, nat_eq, if◌then◌else◌, codes, Bool, true, false, ◌&&◌, List, [], ◌∷◌, Option, Some, None, IfSome, IsTrue, refl, ap, subst, arith, list_all, option_map, str_eq_ignore_ascii_case, same_Some, nat_tests, is_blank, before_hash, Kind, kind_of, is_name_byte, is_name, is_short, Token, Word, Open, Close, Comma, Equals, Stray, tokens_of, mark_of, onto_word, begins_with_name_byte, Statement, Blank, Input, Output, Assign, Definition, statement_of, form_of, inputs_of, more_inputs_of, declaration_of, definition_of, names_of}
 
 -- each of these is a name
 abbrev AreNames : List (List ℕ) → Type 0

@@ -1,10 +1,5 @@
 -- The first token of a line, and the tokens of what follows it.
-use Rattle.std.proofs.Common.{ℕ, suc, ◌≡◌, ◌<◌, ◌+◌, Bool, true, false, List, [], ◌∷◌, length, take, drop, refl, arith, get_or}
-use Rattle.std.proofs.lemmas.Bool.Decides.{nat_tests}
-use Rattle.std.specs.List.{prefix_len}
-use Rattle.cts_base.specs.Words.{is_blank}
-use Rattle.cts_model.specs.text.Names.{is_name_byte}
-use Rattle.cts_model.specs.text.Tokens.{Word, begins_with_name_byte, tokens_of}
+use Rattle.bench_reader.proofs.Vocabulary.{ℕ, suc, ◌≡◌, ◌<◌, ◌+◌, Bool, true, false, List, [], ◌∷◌, length, take, drop, refl, arith, get_or, nat_tests, prefix_len, is_blank, is_name_byte, Word, begins_with_name_byte, tokens_of}
 
 -- a space or a tab is no byte of a name
 blank_outside_names : (byte : ℕ) → is_blank byte ≡ true → is_name_byte byte ≡ false
@@ -32,8 +27,7 @@ tokens_of-after_blanks [] = refl
 tokens_of-after_blanks (byte ∷ line) = at (tokens_of-after_blanks line) (is_blank byte) refl
   where
     at : tokens_of (drop (prefix_len is_blank line) line) ≡ tokens_of line → (b : Bool)
-        → is_blank byte ≡ b
-        → tokens_of (drop (prefix_len is_blank (byte ∷ line)) (byte ∷ line))
+        → is_blank byte ≡ b → tokens_of (drop (prefix_len is_blank (byte ∷ line)) (byte ∷ line))
         ≡ tokens_of (byte ∷ line)
     at after true blank = rw (tokens_of-blank byte line blank, blank, drop-one_more) after
     at after false blank =
@@ -66,8 +60,7 @@ tokens_of-word (byte ∷ line) begins = at (tokens_of-word line) (begins_with_na
     at : (begins_with_name_byte line ≡ true
         → tokens_of line ≡ Word (take (prefix_len is_name_byte line) line)
         ∷ tokens_of (drop (prefix_len is_name_byte line) line))
-        → (b : Bool) → begins_with_name_byte line ≡ b
-        → tokens_of (byte ∷ line)
+        → (b : Bool) → begins_with_name_byte line ≡ b → tokens_of (byte ∷ line)
         ≡ Word (take (prefix_len is_name_byte (byte ∷ line)) (byte ∷ line))
         ∷ tokens_of (drop (prefix_len is_name_byte (byte ∷ line)) (byte ∷ line))
     at rest true goes_on =

@@ -1,15 +1,5 @@
 -- The first line that uses a name which isn't defined.
-use Rattle.std.proofs.Common.{◌≡◌, ◌∙◌, ◌+◌, ◌++◌, ◌∷◌, [], ℕ, Bool, true, false, if◌then◌else◌, List, length, Option, Some, None, is_some, sym, subst, ap, refl, append-nil}
-use Rattle.std.specs.Option.{option_map_or, option_or}
-use Rattle.std.proofs.lemmas.List.Sums.{AllPass-from_list_all, list_all-from_AllPass}
-use Rattle.cts_base.specs.LineFormats.{first_fault_after}
-use Rattle.cts_base.proofs.LineFaults.{passed_over}
-use Rattle.cts_model.specs.netlist.Netlists.{number_of}
-use Rattle.cts_model.specs.netlist.Statements.{Statement, statement_of, uses_of}
-use Rattle.bench_reader.specs.declared.fault.BenchFault.{BenchFault}
-use Rattle.bench_reader.specs.declared.fault.BenchFault.TheVariants.{Undefined}
-use Rattle.bench_reader.specs.Faults.{use_fault, uses_defined}
-use Rattle.bench_reader.specs.Uses.{AreDefined, UsesDefined}
+use Rattle.bench_reader.proofs.Vocabulary.{◌≡◌, ◌∙◌, ◌+◌, ◌++◌, ◌∷◌, [], ℕ, Bool, true, false, if◌then◌else◌, List, length, Option, Some, None, is_some, sym, subst, ap, refl, append-nil, option_map_or, option_or, AllPass-from_list_all, list_all-from_AllPass, first_fault_after, passed_over, number_of, Statement, statement_of, uses_of, BenchFault, Undefined, use_fault, uses_defined, AreDefined, UsesDefined}
 use Rattle.bench_reader.proofs.LineStatements.{statement_at}
 
 module _ (names : List (List ℕ)) where

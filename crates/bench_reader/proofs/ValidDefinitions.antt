@@ -1,22 +1,9 @@
 -- What the definitions of lines without a fault keep.
-use Rattle.std.proofs.Common.{◌≡◌, ◌≢◌, ℕ, ◌≤◌, ◌<◌, Bool, true, false, nat_le, nat_lt, if◌then◌else◌, ◌&&◌, List, [], ◌∷◌, ◌++◌, length, Option, Some, None, All, AllPairs, Contains, IsTrue, refl, ◌∙◌, subst, arith, append_assoc, append-nil}
-use Rattle.std.specs.Option.{option_map_or, option_and_then}
-use Rattle.std.proofs.lemmas.Bool.Decides.{nat_tests}
-use Rattle.std.proofs.lemmas.List.{length_push, length-map, get_or-map}
-use Rattle.std.proofs.lemmas.List.Elements.{All-nil, All-push, Contains-get_or}
-use Rattle.std.proofs.lemmas.List.Quantifiers.{all_pairs_push}
-use Rattle.cts_base.specs.LineFormats.{first_fault_after}
-use Rattle.cts_base.proofs.LineFaults.{neither}
-use Rattle.cts_model.specs.text.Names.{is_name, is_short}
-use Rattle.cts_model.specs.netlist.Kinds.{is_valid}
-use Rattle.cts_model.specs.netlist.Statements.{Definition, definition_of}
-use Rattle.cts_model.specs.netlist.Definitions.{definitions_in, defined_names, register_count, gate_input_count}
+use Rattle.bench_reader.proofs.Vocabulary.{◌≡◌, ◌≢◌, ℕ, ◌≤◌, ◌<◌, Bool, true, false, nat_le, nat_lt, if◌then◌else◌, ◌&&◌, List, [], ◌∷◌, ◌++◌, length, Option, Some, None, All, AllPairs, Contains, IsTrue, refl, ◌∙◌, subst, arith, append_assoc, append-nil, option_map_or, option_and_then, nat_tests, length_push, length-map, get_or-map, All-nil, All-push, Contains-get_or, all_pairs_push, first_fault_after, neither, is_name, is_short, is_valid, Definition, definition_of, definitions_in, defined_names, register_count, gate_input_count, has_valid_inputs, is_defined_before, definition_excess, fault_of, Signals, Registers, Inputs}
 use Rattle.bench_reader.proofs.LineStatements.{definitions_push_some, definitions_push_none}
 use Rattle.bench_reader.proofs.FlawlessLines.{IsSoundLine, sound_line}
 use Rattle.bench_reader.proofs.StatementNames.{defined_name}
 use Rattle.bench_reader.proofs.Keys.{absent_from_any}
-use Rattle.bench_reader.specs.Faults.{has_valid_inputs, is_defined_before, definition_excess, fault_of}
-use Rattle.bench_reader.specs.declared.fault.Which.TheVariants.{Signals, Registers, Inputs}
 
 -- a name that is short enough
 abbrev pub HasName : List ℕ → Type 0

@@ -1,11 +1,7 @@
 -- What two pieces of a wire have in common, by their coordinates.
-use Rattle.std.proofs.Common.{◌≡◌, ℕ, ◌<◌, ℤ, pos, ◌*ℤ◌, ◌≤ℤ◌, ◌<ℤ◌, inl, inr, sym, ap, ◌∙◌, arith}
+use Rattle.cert_check.proofs.Vocabulary.{◌≡◌, ℕ, ◌<◌, ℤ, pos, ◌*ℤ◌, ◌≤ℤ◌, ◌<ℤ◌, inl, inr, sym, ap, ◌∙◌, arith, ints, clamps, by_lt_z, Point, IsBetween, AreApart, Share, greatest_common, least_common, piece}
 use Rattle.std.specs.Int.{int_max, int_min}
-use Rattle.std.proofs.lemmas.Int.{ints, clamps, by_lt_z}
-use Rattle.cts_model.specs.declared.place.Point.{Point}
-use Rattle.cts_model.specs.tree.DrawnWires.{IsBetween, AreApart}
 use Rattle.cts_model.proofs.ScaleLemmas.{scale_le, scale_lt, scale-max}
-use Rattle.cert_check.specs.DrawnParts.{Share, greatest_common, least_common, piece}
 
 -- the lesser of two numbers is the one or the other
 min_left : (a b : ℤ) → a ≤ℤ b → int_min a b ≡ a

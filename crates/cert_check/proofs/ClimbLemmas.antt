@@ -1,13 +1,6 @@
 -- The climb from a sink to a node.
-use Rattle.std.proofs.Common.{◌≡◌, ◌↔◌, ◌<◌, ◌≤◌, ◌+◌, ◌-◌, ◌*◌, ℕ, zero, suc, List, [], ◌∷◌, ◌++◌, length, Some, inl, inr, refl, sym, subst, arith}
-use Rattle.std.specs.Prelude.{slice_get}
+use Rattle.cert_check.proofs.Vocabulary.{◌≡◌, ◌↔◌, ◌<◌, ◌≤◌, ◌+◌, ◌-◌, ◌*◌, ℕ, zero, suc, List, [], ◌∷◌, ◌++◌, length, Some, inl, inr, refl, sym, subst, arith, slice_get, cases_lt, Contains-append_cases, Contains-append_left, Contains-append_right, Merge, IsParent, IsTopology, Joins, numbers_below, made_parent, one_parent, parent_above, merge_at, merge_here, numbers_below-merge, numbers_below-sink, some_and}
 use Rattle.std.specs.List.{Contains}
-use Rattle.std.proofs.lemmas.Bool.{cases_lt}
-use Rattle.std.proofs.lemmas.List.Elements.{Contains-append_cases, Contains-append_left, Contains-append_right}
-use Rattle.cts_model.specs.declared.tree.Merge.{Merge}
-use Rattle.cts_model.specs.tree.Topologies.{IsParent, IsTopology, Joins, numbers_below}
-use Rattle.cts_model.proofs.ParentLemmas.{made_parent, one_parent, parent_above}
-use Rattle.cts_model.proofs.TopologyLemmas.{merge_at, merge_here, numbers_below-merge, numbers_below-sink, some_and}
 
 -- a list of one item has no other
 only_item : (only item : ℕ) → Contains (only ∷ []) item → item ≡ only

@@ -1,21 +1,7 @@
 -- Constraints by what joins their pairs.
-use Rattle.std.proofs.Common.{◌≡◌, ◌<◌, ◌↔◌, ℕ, ℤ, Bool, false, true, List, length, map, get_or, Option, Some, None, ap, subst, sym, ◌∙◌, arith, All}
-use Rattle.std.specs.Prelude.{IfSome, IsSomeAnd, MatchBool, slice_get}
+use Rattle.cert_check.proofs.Vocabulary.{◌≡◌, ◌<◌, ◌↔◌, ℕ, ℤ, Bool, false, true, List, length, map, get_or, Option, Some, None, ap, subst, sym, ◌∙◌, arith, All, IfSome, IsSomeAnd, MatchBool, slice_get, length-map, All-map, slice_get-get_or, slice_get-map, Circuit, Constraint, Tech, PairDelay, IsPath, IsConstraintOf, IsHoldConstraint, IsSetupConstraint, IsOfCircuit, IsBetweenRegisters, AreDelaysBetween, IsJoinedBy, pair_of, weight_by}
 use Rattle.std.specs.Option.{option_map}
-use Rattle.std.proofs.lemmas.List.{length-map}
-use Rattle.std.proofs.lemmas.List.Elements.{All-map}
-use Rattle.std.proofs.lemmas.Option.{slice_get-get_or, slice_get-map}
-use Rattle.cts_model.specs.declared.circuit.Circuit.{Circuit}
-use Rattle.cts_model.specs.declared.constraint.Constraint.{Constraint}
-use Rattle.cts_model.specs.declared.tech.Tech.{Tech}
-use Rattle.cts_model.specs.declared.timing.PairDelay.{PairDelay}
-use Rattle.cts_model.specs.netlist.Paths.{IsPath}
-use Rattle.cts_model.specs.timing.Constraints.{IsConstraintOf, IsHoldConstraint, IsSetupConstraint}
 use Rattle.cts_model.specs.timing.PairLists.{IsSmallPair}
-use Rattle.cts_model.specs.report.Judgements.{IsOfCircuit}
-use Rattle.cts_model.specs.report.ReportBounds.{IsBetweenRegisters}
-use Rattle.path_delays.specs.JoinedPairs.{AreDelaysBetween, IsJoinedBy}
-use Rattle.cert_check.specs.GivenConstraints.{pair_of, weight_by}
 use Rattle.cert_check.proofs.GivenLemmas.{given_by}
 
 -- the registers of a pair are those of its constraint
@@ -39,8 +25,7 @@ pairs_among registers constraints among =
 -- the delays at the place of a constraint are those of its pair
 joined_here : (circuit : Circuit) (tech : Tech) (constraints : List Constraint)
     (delays : List (Option PairDelay)) → AreDelaysBetween circuit tech (map pair_of constraints)
-    delays
-    → (place : ℕ) (constraint : Constraint) (joined : Option PairDelay)
+    delays → (place : ℕ) (constraint : Constraint) (joined : Option PairDelay)
     → slice_get constraints place ≡ Some constraint → slice_get delays place ≡ Some joined
     → IsJoinedBy circuit tech (pair_of constraint).0 (pair_of constraint).1 joined
 joined_here circuit tech constraints delays are place constraint joined here there =

@@ -1,17 +1,6 @@
 -- Wires from the source down, as they are handed from each node's parent to the node.
-use Rattle.std.proofs.Common.{◌≡◌, ◌≢◌, ℕ, zero, suc, ◌<◌, ◌≤◌, ◌+◌, ◌*◌, ◌^◌, ℤ, pos, ◌+ℤ◌, List, length, get_or, inl, inr, sym, ap, subst, ◌∙◌, arith}
-use Rattle.std.specs.Prelude.{slice_set}
+use Rattle.cert_check.proofs.Vocabulary.{◌≡◌, ◌≢◌, ℕ, zero, suc, ◌<◌, ◌≤◌, ◌+◌, ◌*◌, ◌^◌, ℤ, pos, ◌+ℤ◌, List, length, get_or, inl, inr, sym, ap, subst, ◌∙◌, arith, slice_set, cases_lt, cases_eq, ints, get_or-set_same, get_or-set_other, length-set, All-set, Merge, AreWiresDown, IsBelow, number_at, IsParent, IsTopology, source_of, has_parent, one_parent, parent_above, parent_stands}
 use Rattle.std.specs.List.{All}
-use Rattle.std.proofs.lemmas.Bool.{cases_lt, cases_eq}
-use Rattle.std.proofs.lemmas.Int.{ints}
-use Rattle.std.proofs.lemmas.List.{get_or-set_same, get_or-set_other, length-set}
-use Rattle.std.proofs.lemmas.List.Elements.{All-set}
-use Rattle.cts_model.specs.declared.tree.Merge.{Merge}
-use Rattle.cts_model.specs.tree.Embeddings.{AreWiresDown}
-use Rattle.cts_model.specs.placement.Points.{IsBelow}
-use Rattle.cts_model.specs.report.ReportLines.{number_at}
-use Rattle.cts_model.specs.tree.Topologies.{IsParent, IsTopology, source_of}
-use Rattle.cts_model.proofs.ParentLemmas.{has_parent, one_parent, parent_above, parent_stands}
 
 -- the wires down to the source and to the last so many nodes with an edge are known
 pub record Handed (sinks : ℕ) (merges : List Merge) (lengths wires : List ℤ) (done : ℕ)

@@ -1,15 +1,5 @@
 -- The edges of a tree by the list of their nodes' parents.
-use Rattle.std.proofs.Common.{◌≡◌, ◌↔◌, ◌<◌, ◌≤ℤ◌, ℕ, List, Option, Some, length, take, subst, sym, ◌∙◌, arith}
-use Rattle.std.specs.Prelude.{slice_get}
-use Rattle.cts_model.specs.declared.tree.Merge.{Merge}
-use Rattle.cts_model.specs.declared.tree.Wire.{Wire}
-use Rattle.cts_model.specs.tree.DrawnWires.{IsDrawn}
-use Rattle.cts_model.specs.tree.Embeddings.{Embedding}
-use Rattle.cts_model.specs.report.Judgements.{IsDrawnEdge, IsLongEnough}
-use Rattle.cts_model.specs.placement.Points.{distance}
-use Rattle.cts_model.specs.tree.Topologies.{IsParent, IsTopology}
-use Rattle.cts_model.proofs.ParentLemmas.{has_parent, one_parent}
-use Rattle.cert_check.specs.Parents.{AreParents, parent_at}
+use Rattle.cert_check.proofs.Vocabulary.{◌≡◌, ◌↔◌, ◌<◌, ◌≤ℤ◌, ℕ, List, Option, Some, length, take, subst, sym, ◌∙◌, arith, slice_get, Merge, Wire, IsDrawn, Embedding, IsDrawnEdge, IsLongEnough, distance, IsParent, IsTopology, has_parent, one_parent, AreParents, parent_at}
 
 -- what is found at a place is one
 some_same : {X : Type 0} {found : Option X} {one other : X} → found ≡ Some one

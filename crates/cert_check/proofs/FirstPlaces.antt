@@ -1,13 +1,5 @@
 -- The first of some places where something doesn't hold.
-use Rattle.std.proofs.Common.{◌≡◌, ◌<◌, ◌↔◌, ◌+◌, ℕ, Bool, false, IsTrue, inl, inr, sym, ◌∙◌, subst, arith, List, ◌∷◌, All, length, get_or, drop, add-one, drop-cons, Some}
-use Rattle.std.proofs.lemmas.Bool.{cases_lt, false≢true}
-use Rattle.std.proofs.lemmas.Option.{get_or_from_slice_get, slice_get_within}
-use Rattle.std.specs.Prelude.{IsErrAnd, Result, Ok, Err, slice_get}
-use Rattle.cts_model.specs.report.Shown.{AtEach}
-use Rattle.cert_check.specs.declared.verdict.Reason.{Reason}
-use Rattle.cert_check.specs.declared.verdict.Stop.{Stop}
-use Rattle.cert_check.specs.declared.verdict.Stop.TheVariants.{At, NoMemory}
-use Rattle.cert_check.specs.Judged.{FailsFirst, Judges}
+use Rattle.cert_check.proofs.Vocabulary.{◌≡◌, ◌<◌, ◌↔◌, ◌+◌, ℕ, Bool, false, IsTrue, inl, inr, sym, ◌∙◌, subst, arith, List, ◌∷◌, All, length, get_or, drop, add-one, drop-cons, Some, cases_lt, false≢true, get_or_from_slice_get, slice_get_within, IsErrAnd, Result, Ok, Err, slice_get, AtEach, Reason, Stop, At, NoMemory, FailsFirst, Judges}
 
 -- what a test denies doesn't hold
 pub denied : (Holds : Type 0) (test : Bool) → IsTrue test ↔ Holds → test ≡ false → Holds → ⊥
@@ -15,8 +7,7 @@ denied Holds test tests none holds = false≢true (sym none ∙ tests.1 holds)
 
 -- the first place where a test denies it
 pub fails_here : (places : ℕ) (Holds : ℕ → Type 0) (place : ℕ) (test : Bool) → place < places
-    → AtEach place Holds → IsTrue test ↔ Holds place → test ≡ false
-    → FailsFirst places Holds place
+    → AtEach place Holds → IsTrue test ↔ Holds place → test ≡ false → FailsFirst places Holds place
 fails_here places Holds place test within before tests none =
     record { within = within; fails = denied (Holds place) test tests none; before = before }
 

@@ -1,14 +1,5 @@
 -- Constraints by the delays of their pairs.
-use Rattle.std.proofs.Common.{◌≡◌, ◌↔◌, ℕ, ℤ, ◌+ℤ◌, ◌-ℤ◌, Bool, true, false, Some, ap, ◌∙◌, arith}
-use Rattle.std.specs.Prelude.{MatchBool}
-use Rattle.std.proofs.lemmas.Int.{ints}
-use Rattle.cts_model.specs.declared.circuit.Circuit.{Circuit}
-use Rattle.cts_model.specs.declared.constraint.Constraint.{Constraint}
-use Rattle.cts_model.specs.declared.tech.Tech.{Tech}
-use Rattle.cts_model.specs.declared.timing.PairDelay.{PairDelay}
-use Rattle.cts_model.specs.timing.Constraints.{IsConstraintOf, IsHoldConstraint, IsSetupConstraint}
-use Rattle.path_delays.specs.JoinedPairs.{IsDelayBetween, IsJoinedBy}
-use Rattle.cert_check.specs.GivenConstraints.{pair_of, weight_by}
+use Rattle.cert_check.proofs.Vocabulary.{◌≡◌, ◌↔◌, ℕ, ℤ, ◌+ℤ◌, ◌-ℤ◌, Bool, true, false, Some, ap, ◌∙◌, arith, MatchBool, ints, Circuit, Constraint, Tech, PairDelay, IsConstraintOf, IsHoldConstraint, IsSetupConstraint, IsDelayBetween, IsJoinedBy, pair_of, weight_by}
 
 module _ (circuit : Circuit) (tech : Tech) (from to : ℕ) (weight : ℤ) where
   -- a pair's greatest delay gives the weight exactly where it is that of a setup constraint

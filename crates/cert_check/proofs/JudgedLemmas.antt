@@ -1,19 +1,8 @@
 -- Judgements one after the other: what is left where all before hold, and that all hold where a
 -- report is shown.
-use Rattle.std.proofs.Common.{◌≡◌, ℕ, ap, inl, inr, refl}
-use Rattle.std.specs.Prelude.{IsErrAnd, Result, Ok, Err}
-use Rattle.cts_model.specs.declared.problem.Problem.{Problem}
-use Rattle.cts_model.specs.declared.report.Report.{Report}
-use Rattle.cts_model.specs.report.Shown.{AtEach, IsShown, IsShownTiming, IsShownTree, sinks_in, source_in}
+use Rattle.cert_check.proofs.Vocabulary.{◌≡◌, ℕ, ap, inl, inr, refl, IsErrAnd, Result, Ok, Err, Problem, Report, AtEach, IsShown, IsShownTiming, IsShownTree, sinks_in, source_in, Reason, Stop, At, NoMemory, Shown, Not, Decides, Judged, JudgedOnce, Judges, JudgesOnce, JudgedPeriod, JudgedTree, IsVerdict}
 use Rattle.cert_check.specs.declared.judge.Judge.{Judge}
-use Rattle.cert_check.specs.declared.verdict.Reason.{Reason}
-use Rattle.cert_check.specs.declared.verdict.Stop.{Stop}
-use Rattle.cert_check.specs.declared.verdict.Stop.TheVariants.{At, NoMemory}
 use Rattle.cert_check.specs.declared.verdict.Verdict.{Verdict}
-use Rattle.cert_check.specs.declared.verdict.Verdict.TheVariants.{Shown, Not}
-use Rattle.cert_check.specs.Judged.{Decides, Judged, JudgedOnce, Judges, JudgesOnce}
-use Rattle.cert_check.specs.JudgedReports.{JudgedPeriod, JudgedTree}
-use Rattle.cert_check.specs.Verdicts.{IsVerdict}
 use Rattle.cert_check.proofs.FirstPlaces.{passed_on}
 
 -- what is shown isn't refused

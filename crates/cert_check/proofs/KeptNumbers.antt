@@ -1,8 +1,5 @@
 -- Numbers that fit are kept as they are.
-use Rattle.std.proofs.Common.{◌≡◌, ◌^◌, ℤ, ◌+ℤ◌, FitsSigned, of_z, to_z, arith}
-use mir.Syntax.{w128}
-use Rattle.std.proofs.lemmas.Int.{ints, to_z-of_z}
-use Rattle.cts_model.specs.placement.Points.{IsBelow}
+use Rattle.cert_check.proofs.Vocabulary.{◌≡◌, ◌^◌, ℤ, ◌+ℤ◌, FitsSigned, of_z, to_z, arith, w128, ints, to_z-of_z, IsBelow}
 use Rattle.cts_model.specs.table.Tables.{IsWithin}
 
 -- a number as the code keeps it

@@ -1,3 +1,4 @@
+mod Vocabulary
 mod ParentLists
 mod ApartLemmas
 mod WayLemmas

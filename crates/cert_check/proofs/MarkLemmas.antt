@@ -1,14 +1,7 @@
 -- Marks of the nodes that merges join, one merge after the other.
-use Rattle.std.proofs.Common.{◌≡◌, ◌<◌, ◌+◌, ◌*◌, ℕ, Bool, true, List, [], length, set, take, Option, None, Some, refl, sym, subst, arith}
-use Rattle.std.specs.Prelude.{IfSome}
-use Rattle.std.proofs.lemmas.List.{length-set, length-take-le, take_more}
-use Rattle.cts_model.specs.declared.tree.Merge.{Merge}
-use Rattle.cts_model.specs.report.Shown.{AtEach}
+use Rattle.cert_check.proofs.Vocabulary.{◌≡◌, ◌<◌, ◌+◌, ◌*◌, ℕ, Bool, true, List, [], length, set, take, Option, None, Some, refl, sym, subst, arith, IfSome, length-set, length-take-le, take_more, Merge, AtEach, IsMerge, merge_at, merge_here, IsOfUnmarked, JoinsAt}
 use Rattle.cts_model.specs.tree.Marks.{AreMarked}
-use Rattle.cts_model.specs.tree.Topologies.{IsMerge}
 use Rattle.cts_model.proofs.MarkLemmas as mark_lemmas
-use Rattle.cts_model.proofs.TopologyLemmas.{merge_at, merge_here}
-use Rattle.cert_check.specs.EmbeddingParts.{IsOfUnmarked, JoinsAt}
 use Rattle.cert_check.proofs.FirstPlaces.{each_more}
 
 -- there is a mark for each node, those are marked that merges before a place join, and each of

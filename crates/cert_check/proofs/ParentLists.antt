@@ -1,14 +1,5 @@
 -- Lists of parents, as they are filled merge by merge.
-use Rattle.std.proofs.Common.{◌≡◌, ◌⊎◌, ◌<◌, ◌≤◌, ◌+◌, ◌*◌, ℕ, List, length, set, Some, inl, inr, refl, sym, ap, subst, ◌∙◌, arith}
-use Rattle.std.specs.Prelude.{slice_get}
-use Rattle.std.proofs.lemmas.Bool.{cases_lt}
-use Rattle.std.proofs.lemmas.List.{get_or_default, get_or-set_same, get_or-set_other, length-set}
-use Rattle.std.proofs.lemmas.Option.{slice_get_within}
-use Rattle.cts_model.specs.declared.tree.Merge.{Merge}
-use Rattle.cts_model.specs.tree.Topologies.{IsParent, IsTopology, Joins, root_of, source_of}
-use Rattle.cts_model.proofs.ParentLemmas.{has_parent, joined_by, made_parent, one_parent, parent_stands}
-use Rattle.cts_model.proofs.TopologyLemmas.{first_made, second_made, some_and}
-use Rattle.cert_check.specs.Parents.{AreParents, parent_at}
+use Rattle.cert_check.proofs.Vocabulary.{◌≡◌, ◌⊎◌, ◌<◌, ◌≤◌, ◌+◌, ◌*◌, ℕ, List, length, set, Some, inl, inr, refl, sym, ap, subst, ◌∙◌, arith, slice_get, cases_lt, get_or_default, get_or-set_same, get_or-set_other, length-set, slice_get_within, Merge, IsParent, IsTopology, Joins, root_of, source_of, has_parent, joined_by, made_parent, one_parent, parent_stands, first_made, second_made, some_and, AreParents, parent_at}
 
 -- there is an entry for each node but the source, and the nodes have theirs whose parents are made
 -- before a place

@@ -1,34 +1,10 @@
 -- What a report's tree gives to the judgement of its reaches, and what that comes to.
-use Rattle.std.proofs.Common.{◌≡◌, ◌↔◌, ℕ, ◌<◌, ◌≤◌, ◌+◌, ◌*◌, ◌^◌, ℤ, pos, ◌-ℤ◌, List, length, get_or, FitsSigned, to_z, of_z, Bool, IsTrue, Option, Some, None, inl, inr, refl, sym, ap, subst, ◌∙◌, arith}
-use Rattle.std.specs.Prelude.{IfSome, IsSomeAnd, slice_get}
+use Rattle.cert_check.proofs.Vocabulary.{◌≡◌, ◌↔◌, ℕ, ◌<◌, ◌≤◌, ◌+◌, ◌*◌, ◌^◌, ℤ, pos, ◌-ℤ◌, List, length, get_or, FitsSigned, to_z, of_z, Bool, IsTrue, Option, Some, None, inl, inr, refl, sym, ap, subst, ◌∙◌, arith, IfSome, IsSomeAnd, slice_get, w128, ints, to_z-of_z, get_or_from_slice_get, slice_get-get_or, slice_get_within, Circuit, Point, Sink, Uv, Problem, Report, Merge, AreWiresDown, Embedding, embedding_of, total_length, total_wire, IsReachShown, IsSkewed, IsBelow, IsPointBelow, IsUvBelow, rotated, IsOfSize, IsWithinBounds, number_at, arrival_of, sinks_in, source_in, ShowsMerge, ShowsSource, IsTopology, IsParent, Joins, numbers_below, root_of, source_of, made_parent, some_and, IsLevel, IsMergeShown, IsReachOver, IsSourceShown, IsSmallSink}
 use Rattle.std.specs.List.{All}
-use mir.Syntax.{w128}
-use Rattle.std.proofs.lemmas.Int.{ints, to_z-of_z}
-use Rattle.std.proofs.lemmas.Option.{get_or_from_slice_get, slice_get-get_or, slice_get_within}
-use Rattle.cts_model.specs.declared.circuit.Circuit.{Circuit}
-use Rattle.cts_model.specs.declared.place.Point.{Point}
-use Rattle.cts_model.specs.declared.place.Sink.{Sink}
-use Rattle.cts_model.specs.declared.place.Uv.{Uv}
-use Rattle.cts_model.specs.declared.problem.Problem.{Problem}
-use Rattle.cts_model.specs.declared.report.Report.{Report}
-use Rattle.cts_model.specs.declared.tree.Merge.{Merge}
-use Rattle.cts_model.specs.tree.Embeddings.{AreWiresDown, Embedding, embedding_of, total_length, total_wire}
-use Rattle.cts_model.specs.report.Judgements.{IsReachShown, IsSkewed}
-use Rattle.cts_model.specs.placement.Points.{IsBelow, IsPointBelow, IsUvBelow, rotated}
 use Rattle.cts_model.specs.tree.Problems.{on_grid, sink_of}
-use Rattle.cts_model.specs.report.ReportBounds.{IsOfSize, IsWithinBounds}
-use Rattle.cts_model.specs.report.ReportLines.{number_at}
-use Rattle.cts_model.specs.timing.Schedules.{arrival_of}
-use Rattle.cts_model.specs.report.Shown.{sinks_in, source_in}
-use Rattle.cts_model.specs.tree.ShownReaches.{ShowsMerge, ShowsSource}
-use Rattle.cts_model.specs.tree.Topologies.{IsTopology, IsParent, Joins, numbers_below, root_of, source_of}
 use Rattle.cts_model.proofs.GridLemmas.{on_grid_below, scheduled_size}
-use Rattle.cts_model.proofs.ParentLemmas.{made_parent}
 use Rattle.cts_model.proofs.SkewLemmas.{length-sinks_of, sink_at}
-use Rattle.cts_model.proofs.TopologyLemmas.{some_and}
 use Rattle.cts_model.proofs.TotalLemmas.{total_within}
-use Rattle.cert_check.specs.ReachParts.{IsLevel, IsMergeShown, IsReachOver, IsSourceShown}
-use Rattle.cert_check.specs.SmallSinks.{IsSmallSink}
 use Rattle.cert_check.proofs.DownLemmas.{one_wire}
 
 -- ---- sizes
@@ -98,8 +74,7 @@ module _ (problem : Problem) (report : Report) (size : IsOfSize problem.circuit 
 
 -- a register's skew by the sinks that are read
 pub denotes_level : (sinks : List Sink) (wire : ℕ → ℤ) (register : ℕ) (default : Sink)
-    → (test : Bool) → register < length sinks
-    → IsTrue test ↔ (wire register -ℤ wire 0
+    → (test : Bool) → register < length sinks → IsTrue test ↔ (wire register -ℤ wire 0
     ≡ (get_or sinks 0 default).offset -ℤ (get_or sinks register default).offset)
     → IsTrue test ↔ IsLevel sinks wire register
 denotes_level sinks wire register default test within denotes =
@@ -154,8 +129,7 @@ module _ (sinks : List Sink) (source : Uv) (report : Report)
 
   -- where the edge to each of the two that a merge joins is as long as reaches differ
   both_over : (place : ℕ) (merge : Merge) → slice_get report.topology.merges place ≡ Some merge
-      → (below : ℕ)
-      → Joins merge below → IsMergeShown sinks report place
+      → (below : ℕ) → Joins merge below → IsMergeShown sinks report place
       → IsReachOver report.tree (length sinks + place) below
   both_over place merge here below (inl same) shown =
       subst (IsReachOver report.tree (length sinks + place)) same

@@ -1,21 +1,5 @@
 -- The shape of a tree, by its sinks, its merges and its source.
-use Rattle.std.proofs.Common.{◌≡◌, ◌<◌, ◌≤◌, ◌+◌, ◌-◌, ◌*◌, ◌↔◌, ℕ, Bool, IsTrue, List, length, take, get_or, inl, inr, refl, sym, subst, arith}
-use Rattle.std.specs.Prelude.{IfOk, IfSome, Result, Ok, Err, slice_get}
-use Rattle.std.proofs.lemmas.Bool.{cases_lt}
-use Rattle.std.proofs.lemmas.Option.{slice_get-get_or, slice_get_past, slice_get_within}
-use Rattle.cts_model.specs.declared.place.Sink.{Sink}
-use Rattle.cts_model.specs.declared.place.Uv.{Uv}
-use Rattle.cts_model.specs.declared.tree.Merge.{Merge}
-use Rattle.cts_model.specs.tree.Embeddings.{Embedding}
-use Rattle.cts_model.specs.report.Judgements.{HasShape}
-use Rattle.cts_model.specs.placement.Points.{rotated}
-use Rattle.cts_model.specs.report.Shown.{AtEach}
-use Rattle.cts_model.specs.tree.Topologies.{IsMerge, IsTopology, source_of}
-use Rattle.cert_check.specs.EmbeddingParts.{JoinsAt, StandsAt}
-use Rattle.cert_check.specs.declared.verdict.Reason.TheVariants.{TreeShape}
-use Rattle.cert_check.specs.declared.verdict.Stop.{Stop}
-use Rattle.cert_check.specs.declared.verdict.Stop.TheVariants.{At, NoMemory}
-use Rattle.cert_check.specs.Judged.{FailsFirst, Judges, JudgesOnce}
+use Rattle.cert_check.proofs.Vocabulary.{◌≡◌, ◌<◌, ◌≤◌, ◌+◌, ◌-◌, ◌*◌, ◌↔◌, ℕ, Bool, IsTrue, List, length, take, get_or, inl, inr, refl, sym, subst, arith, IfOk, IfSome, Result, Ok, Err, slice_get, cases_lt, slice_get-get_or, slice_get_past, slice_get_within, Sink, Uv, Merge, Embedding, HasShape, rotated, AtEach, IsMerge, IsTopology, source_of, JoinsAt, StandsAt, TreeShape, Stop, At, NoMemory, FailsFirst, Judges, JudgesOnce}
 use Rattle.cert_check.proofs.FirstPlaces.{stops_by}
 use Rattle.cert_check.proofs.MarkLemmas.{if_some, some_if}
 

@@ -1,16 +1,7 @@
 -- Shows and sinks as they are read from lists.
-use Rattle.std.proofs.Common.{◌≡◌, ◌↔◌, ◌<◌, ◌≤◌, ◌^◌, ℕ, ℤ, pos, ◌+ℤ◌, Bool, IsTrue, List, length, get_or, to_z, of_z, sym, ap, subst, ◌∙◌, arith}
-use mir.Syntax.{w128}
+use Rattle.cert_check.proofs.Vocabulary.{◌≡◌, ◌↔◌, ◌<◌, ◌≤◌, ◌^◌, ℕ, ℤ, pos, ◌+ℤ◌, Bool, IsTrue, List, length, get_or, to_z, of_z, sym, ap, subst, ◌∙◌, arith, w128, IsSomeAnd, slice_get, ints, to_z-of_z, slice_get-get_or, Sink, Uv, IsBelow, span, ShowsSource}
 use Rattle.std.specs.List.{All}
-use Rattle.std.specs.Prelude.{IsSomeAnd, slice_get}
-use Rattle.std.proofs.lemmas.Int.{ints, to_z-of_z}
-use Rattle.std.proofs.lemmas.Option.{slice_get-get_or}
-use Rattle.cts_model.specs.declared.place.Sink.{Sink}
-use Rattle.cts_model.specs.declared.place.Uv.{Uv}
 use Rattle.cts_model.specs.declared.tree.Show.{Show}
-use Rattle.cts_model.specs.placement.Points.{IsBelow}
-use Rattle.cts_model.specs.tree.Regions.{span}
-use Rattle.cts_model.specs.tree.ShownReaches.{ShowsSource}
 
 -- a small number, as the code keeps it, is small
 pub kept_below : (low high : ℕ) (number : ℤ) → low ≤ high → high ≤ 10 ^ 36 → IsBelow low number
@@ -32,8 +23,7 @@ denotes_found Holds items place default test within denotes =
 
 -- and with the span of two sinks
 pub denotes_span : (sinks : List Sink) (reach : ℤ) (first second : ℕ) (default : Sink)
-    → (test : Bool) → first < length sinks → second < length sinks
-    → IsTrue test ↔ (reach +ℤ reach
+    → (test : Bool) → first < length sinks → second < length sinks → IsTrue test ↔ (reach +ℤ reach
     ≡ span (get_or sinks first default) (get_or sinks second default))
     → IsTrue test ↔ IsSomeAnd (slice_get sinks first) (λ one. IsSomeAnd (slice_get sinks second)
     (λ other. reach +ℤ reach ≡ span one other))

@@ -1,18 +1,10 @@
 -- What true slacks say of the period, and of those that are printed.
-use Rattle.std.proofs.Common.{◌≡◌, ◌<◌, ◌↔◌, ◌*◌, ◌/◌, ℕ, suc, ℤ, pos, negsuc, ◌-ℤ◌, ◌*ℤ◌, ◌≤ℤ◌, List, Option, Some, None, sym, ap, subst, ◌∙◌, arith}
-use Rattle.std.specs.Prelude.{IfSome, nat_abs, slice_get}
+use Rattle.cert_check.proofs.Vocabulary.{◌≡◌, ◌<◌, ◌↔◌, ◌*◌, ◌/◌, ℕ, suc, ℤ, pos, negsuc, ◌-ℤ◌, ◌*ℤ◌, ◌≤ℤ◌, List, Option, Some, None, sym, ap, subst, ◌∙◌, arith, IfSome, nat_abs, slice_get, ints, Circuit, Tech, HasSlack, MeetsAt, IsPath, arrival_of, AreOneSlack, HasSlackRoom, IsFromZero}
 use Rattle.std.proofs.Math.Nat.{mul-div_cancel, mul_right_comm}
-use Rattle.std.proofs.lemmas.Int.{ints}
 use Rattle.cts_base.specs.declared.fraction.Fraction.{Fraction}
 use Rattle.cts_base.proofs.OneFraction.{one_fraction, other_sign}
-use Rattle.cts_model.specs.declared.circuit.Circuit.{Circuit}
 use Rattle.cts_model.specs.declared.schedule.Slack.{Slack}
-use Rattle.cts_model.specs.declared.tech.Tech.{Tech}
-use Rattle.cts_model.specs.report.Judgements.{HasSlack, MeetsAt}
-use Rattle.cts_model.specs.netlist.Paths.{IsPath}
-use Rattle.cts_model.specs.timing.Schedules.{arrival_of}
 use Rattle.cts_model.specs.timing.Slacks.{IsSlack, IsSlackOf, hold_spare, setup_spare}
-use Rattle.cert_check.specs.ComparedSlacks.{AreOneSlack, HasSlackRoom, IsFromZero}
 use Rattle.cert_check.proofs.MarkLemmas.{some_if}
 
 -- ---- fractions that are numbers over a scale

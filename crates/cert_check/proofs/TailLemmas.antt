@@ -1,11 +1,5 @@
 -- Where the constraints before a place of a cycle begin, one place after the other.
-use Rattle.std.proofs.Common.{◌⊎◌, ◌≡◌, ◌<◌, ◌+◌, ℕ, Bool, true, false, List, length, get_or, set, inl, inr, sym, subst, arith, ◌∙◌, Some, ap}
-use Rattle.std.specs.Prelude.{slice_get}
-use Rattle.std.proofs.lemmas.Bool.{cases_lt, cases_eq}
-use Rattle.std.proofs.lemmas.List.{get_or-set_same, get_or-set_other, length-set}
-use Rattle.cts_model.specs.declared.constraint.Constraint.{Constraint}
-use Rattle.cts_model.specs.report.Judgements.{HoldsTogether}
-use Rattle.cts_model.specs.report.Shown.{AtEach}
+use Rattle.cert_check.proofs.Vocabulary.{◌⊎◌, ◌≡◌, ◌<◌, ◌+◌, ℕ, Bool, true, false, List, length, get_or, set, inl, inr, sym, subst, arith, ◌∙◌, Some, ap, slice_get, cases_lt, cases_eq, get_or-set_same, get_or-set_other, length-set, Constraint, HoldsTogether, AtEach}
 use Rattle.cert_check.specs.CyclePlaces.{AreTailsBefore, BeginsBefore}
 use Rattle.cert_check.proofs.FirstPlaces.{each_more}
 

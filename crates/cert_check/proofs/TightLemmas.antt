@@ -1,17 +1,6 @@
 -- The constraints of tight leads, lead by lead.
-use Rattle.std.proofs.Common.{◌≡◌, ◌<◌, ◌+◌, ◌↔◌, ℕ, zero, suc, Bool, IsTrue, List, [], ◌∷◌, ◌++◌, All, length, take, get_or, Some, refl, ap, subst, ◌∙◌, arith}
-use Rattle.std.specs.Prelude.{IfSome, slice_get}
-use Rattle.std.proofs.lemmas.List.{take_more}
-use Rattle.std.proofs.lemmas.List.Elements.{All-cons, All-head, All-nil, All-tail}
-use Rattle.cts_model.specs.declared.circuit.Circuit.{Circuit}
-use Rattle.cts_model.specs.declared.constraint.Constraint.{Constraint}
+use Rattle.cert_check.proofs.Vocabulary.{◌≡◌, ◌<◌, ◌+◌, ◌↔◌, ℕ, zero, suc, Bool, IsTrue, List, [], ◌∷◌, ◌++◌, All, length, take, get_or, Some, refl, ap, subst, ◌∙◌, arith, IfSome, slice_get, take_more, All-cons, All-head, All-nil, All-tail, Circuit, Constraint, Zero, Tight, Tech, IsConstraintOf, IsOfCircuit, IsBetweenRegisters, LeadsAmong, IsTested, tight_constraints}
 use Rattle.cts_model.specs.declared.schedule.Lead.{Lead}
-use Rattle.cts_model.specs.declared.schedule.Lead.TheVariants.{Zero, Tight}
-use Rattle.cts_model.specs.declared.tech.Tech.{Tech}
-use Rattle.cts_model.specs.timing.Constraints.{IsConstraintOf}
-use Rattle.cts_model.specs.report.Judgements.{IsOfCircuit}
-use Rattle.cts_model.specs.report.ReportBounds.{IsBetweenRegisters, LeadsAmong}
-use Rattle.cert_check.specs.TightLeads.{IsTested, tight_constraints}
 
 -- how many constraints the leads before a register have
 abbrev pub tight_before : List Lead → (register : ℕ) → ℕ
@@ -47,8 +36,7 @@ tight_here (Tight d other ∷ leads) (suc register) depth constraint low is =
 
 -- so a test of the constraint there is one of the lead's
 pub tight_tested : (circuit : Circuit) (tech : Tech) (leads : List Lead) (register : ℕ)
-    → register < length leads → (given : Bool)
-    → IsTrue given
+    → register < length leads → (given : Bool) → IsTrue given
     ↔ IsOfCircuit circuit tech (tight_constraints leads) (tight_before leads register)
     → IsTested circuit tech (get_or leads register Zero) given
 tight_tested circuit tech leads register low given says = at (get_or leads register Zero) refl

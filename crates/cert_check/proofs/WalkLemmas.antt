@@ -1,14 +1,8 @@
 -- Paths and their delays, one gate after the other.
-use Rattle.std.proofs.Common.{◌≡◌, ◌<◌, ◌+◌, ◌*◌, ◌^◌, ℕ, ℤ, pos, ◌+ℤ◌, ◌≤ℤ◌, neg_ℤ, Bool, true, false, IsTrue, Option, None, Some, All, Contains, List, [], ◌∷◌, length, get_or, drop, refl, ap, ◌∙◌, arith}
-use Rattle.std.specs.Prelude.{IsSomeAnd, slice_get}
-use Rattle.std.proofs.lemmas.List.Elements.{All-nil, All-cons}
+use Rattle.cert_check.proofs.Vocabulary.{◌≡◌, ◌<◌, ◌+◌, ◌*◌, ◌^◌, ℕ, ℤ, pos, ◌+ℤ◌, ◌≤ℤ◌, neg_ℤ, Bool, true, false, IsTrue, Option, None, Some, All, List, [], ◌∷◌, length, get_or, drop, refl, ap, ◌∙◌, arith, IsSomeAnd, slice_get, All-nil, All-cons, ints, Circuit, Tech, Follows, IsGate, IsPath, Reads, IsBelow}
+use Rattle.std.proofs.Common.{Contains}
 use Rattle.cts_model.specs.netlist.Kinds.{is_gate}
 use Rattle.cts_model.specs.declared.signal.Signal.{Signal}
-use Rattle.std.proofs.lemmas.Int.{ints}
-use Rattle.cts_model.specs.declared.circuit.Circuit.{Circuit}
-use Rattle.cts_model.specs.declared.tech.Tech.{Tech}
-use Rattle.cts_model.specs.netlist.Paths.{Follows, IsGate, IsPath, Reads}
-use Rattle.cts_model.specs.placement.Points.{IsBelow}
 use Rattle.cert_check.proofs.FirstPlaces.{rest_is}
 use Rattle.cert_check.specs.WalkedPaths.{LeadsTo, gate_delay_by, through_by}
 

@@ -1,16 +1,6 @@
 -- The pieces of a way from a point through others, the first by itself.
-use Rattle.std.proofs.Common.{◌≡◌, ◌↔◌, ◌<◌, ◌≤◌, ◌+◌, ◌-◌, ◌*◌, ◌^◌, Bool, false, ℕ, List, [], ◌∷◌, suc, All, AllPairs, Some, IsTrue, length, get_or, take, drop, ℤ, pos, ◌+ℤ◌, ◌≤ℤ◌, sym, ap, ◌∙◌, arith}
-use Rattle.std.specs.Prelude.{slice_get}
-use Rattle.std.proofs.lemmas.Bool.{false≢true}
-use Rattle.std.proofs.lemmas.Int.{ints, clamps}
-use Rattle.std.proofs.lemmas.Option.{slice_get-get_or, get_or_from_slice_get}
-use Rattle.std.proofs.lemmas.List.{take_rest}
-use Rattle.std.proofs.lemmas.List.Elements.{All-cons}
+use Rattle.cert_check.proofs.Vocabulary.{◌≡◌, ◌↔◌, ◌<◌, ◌≤◌, ◌+◌, ◌-◌, ◌*◌, ◌^◌, Bool, false, ℕ, List, [], ◌∷◌, suc, All, AllPairs, Some, IsTrue, length, get_or, take, drop, ℤ, pos, ◌+ℤ◌, ◌≤ℤ◌, sym, ap, ◌∙◌, arith, slice_get, false≢true, ints, clamps, slice_get-get_or, get_or_from_slice_get, take_rest, All-cons, Point, AreApart, IsDrawn, Piece, pieces, total, IsBelow, IsPointBelow, apart, distance, AreEnds, IsWay, piece}
 use Rattle.std.proofs.lemmas.List.Kept.{AllPairs-cons}
-use Rattle.cts_model.specs.declared.place.Point.{Point}
-use Rattle.cts_model.specs.tree.DrawnWires.{AreApart, IsDrawn, Piece, pieces, total}
-use Rattle.cts_model.specs.placement.Points.{IsBelow, IsPointBelow, apart, distance}
-use Rattle.cert_check.specs.DrawnParts.{AreEnds, IsWay, piece}
 
 -- the point that stands where there is none
 abbrev pub origin : Point
@@ -122,8 +112,7 @@ distance_within from to far is one other =
 
 -- points between two ends that are those of a way are those of a drawn wire
 drawn_by_way : (from to : Point) (long : ℤ) (points : List Point) → 1 ≤ length points
-    → length points ≤ 5 → AreEnds from to points → IsWay long points
-    → IsDrawn from to long points
+    → length points ≤ 5 → AreEnds from to points → IsWay long points → IsDrawn from to long points
 drawn_by_way from to long points some few ends way = record {
   some = some;
   few = few;

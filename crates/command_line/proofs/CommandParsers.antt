@@ -1,27 +1,11 @@
 -- The parsers of the commands take plain words.
-use Rattle.std.proofs.Common.{◌≡◌, not, ◌||◌, ◌&&◌, Bool, true, false, List, [], ◌∷◌, map, cond, Option, Some, None, is_some, refl, sym, ap, ◌∙◌, subst, true≢false, codes}
+use Rattle.command_line.proofs.Vocabulary.{◌≡◌, not, ◌||◌, ◌&&◌, Bool, true, false, List, [], ◌∷◌, map, cond, Option, Some, None, is_some, refl, sym, ap, ◌∙◌, subst, true≢false, codes, bytes_eq, All, AllByRecursion, list_all, nat_list_eq_equiv, All-head, All-tail, long_of, Row, Rule, arg_by_id, arg_by_long, rows_of, first_of, nothing_held, rows_after, App, Shape, argument_words, built, is_simple, label_of, matches_of, is_given, is_valid, takes, leaf_takes, Form, Zero, Choice, Word, word_of, kind_of, is_required, form_name, choices_of, Given, IsTaken, is_value, is_taken, is_file_name, option_words, has_option, are_options, has_required, row_values, IsPlainHead, long_name, parser_for}
 use Rattle.std.specs.Prelude.{find, option_and_then, slice_get}
-use Rattle.std.specs.Str.{bytes_eq}
-use Rattle.std.specs.List.{All, AllByRecursion, list_all}
 use Rattle.std.specs.Option.{option_map_or}
-use Rattle.std.specs.Cmp.Lexicographic.{nat_list_eq_equiv}
-use Rattle.std.proofs.lemmas.List.Elements.{All-head, All-tail}
 use Rattle.clap.specs.Facts.{explicit_source}
-use Rattle.clap.specs.Lexer.{long_of}
 use Rattle.clap.specs.Matches.{first_value}
-use Rattle.clap.specs.Walk.{Row, Rule, arg_by_id, arg_by_long, rows_of, first_of, nothing_held, rows_after}
-use Rattle.clap.specs.Simple.{App, Shape, argument_words, built, is_simple, label_of, matches_of}
-use Rattle.clap.specs.Takes.{is_given, is_valid, takes}
 use Rattle.clap.specs.declared.parser.matches.Found.{Found}
-use Rattle.clap.proofs.TakesLemmas.{leaf_takes}
 use Rattle.clap.proofs.WalkLemmas.{first_value-rows}
-use Rattle.command_line.specs.declared.table.Form.{Form}
-use Rattle.command_line.specs.declared.table.Form.TheVariants.{Zero}
-use Rattle.command_line.specs.declared.table.Choice.{Choice}
-use Rattle.command_line.specs.CommandTable.{Word, word_of, kind_of, is_required, form_name, choices_of}
-use Rattle.command_line.specs.Commands.{Given, IsTaken, is_value, is_taken, is_file_name, option_words}
-use Rattle.command_line.specs.PlainWords.{has_option, are_options, has_required, row_values, IsPlainHead}
-use Rattle.command_line.specs.Parsers.{long_name, parser_for}
 use Rattle.command_line.proofs.GivenOptions.{both, is_word, value_of, has_option-value, values_in, SpellsOptions}
 use Rattle.command_line.proofs.NumberWords.{value_first}
 use Rattle.command_line.proofs.PlainCommands.{spelled}

@@ -1,20 +1,7 @@
 -- Options with their values, and the words that spell them.
-use Rattle.std.proofs.Common.{◌≡◌, ◌&&◌, ◌||◌, ◌++◌, Bool, true, false, not, cond, List, [], ◌∷◌, map, Option, Some, None, is_some, option_map, option_to_list, refl, sym, ap, ◌∙◌, subst, true≢false}
-use Rattle.std.specs.Str.{bytes_eq}
-use Rattle.std.specs.List.{All, AllByRecursion, IsDistinct, list_any}
-use Rattle.std.specs.List.Sorted.{IsPermutation}
-use Rattle.std.specs.Map.{lookup, keys_of}
-use Rattle.std.specs.Cmp.Lexicographic.{nat_list_eq_equiv}
-use Rattle.std.proofs.lemmas.Slice.Eq.{bytes_eq-Decides}
-use Rattle.std.proofs.lemmas.List.Elements.{All-cons, All-nil, All-head, All-tail}
-use Rattle.std.proofs.lemmas.List.Sorted.{IsPermutation-refl, IsPermutation-sym, IsPermutation-cons, IsPermutation-trans, IsPermutation-append_right, IsPermutation-middle, IsPermutation-map, Contains-permutation, list_any-IsPermutation}
-use Rattle.std.proofs.lemmas.Map.Keys.{IsDistinct-IsPermutation, IsDistinct-cons, IsDistinct-head, IsDistinct-tail}
+use Rattle.command_line.proofs.Vocabulary.{◌≡◌, ◌&&◌, ◌||◌, ◌++◌, Bool, true, false, not, cond, List, [], ◌∷◌, map, Option, Some, None, is_some, option_map, option_to_list, refl, sym, ap, ◌∙◌, subst, true≢false, bytes_eq, All, AllByRecursion, IsDistinct, list_any, IsPermutation, lookup, keys_of, nat_list_eq_equiv, bytes_eq-Decides, All-cons, All-nil, All-head, All-tail, IsPermutation-refl, IsPermutation-sym, IsPermutation-cons, IsPermutation-trans, IsPermutation-append_right, IsPermutation-middle, IsPermutation-map, Contains-permutation, list_any-IsPermutation, IsDistinct-IsPermutation, IsDistinct-cons, IsDistinct-head, IsDistinct-tail, Choice, Word, word_of, kind_of, Given, is_value, is_taken, IsTaken, option_words, listed_one, listed, has_option, are_options, row_values}
 use Rattle.std.proofs.lemmas.Map.Made.{is_some-lookup}
 use Rattle.std.proofs.lemmas.Map.Views.{Contains-from_lookup, lookup-from_Contains}
-use Rattle.command_line.specs.declared.table.Choice.{Choice}
-use Rattle.command_line.specs.CommandTable.{Word, word_of, kind_of}
-use Rattle.command_line.specs.Commands.{Given, is_value, is_taken, IsTaken, option_words, listed_one, listed}
-use Rattle.command_line.specs.PlainWords.{has_option, are_options, row_values}
 
 -- both of two tests pass
 pub both : (a b : Bool) → (a && b) ≡ true → (a ≡ true) × (b ≡ true)

@@ -1,3 +1,4 @@
+mod Vocabulary
 mod PlainWordTests
 pub mod NumberWords
 pub mod PeriodWords

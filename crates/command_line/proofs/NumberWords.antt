@@ -1,16 +1,11 @@
 -- Words of at most four digits, read as numbers.
-use Rattle.std.proofs.Common.{◌≡◌, ◌<◌, ◌≤◌, ◌&&◌, ℕ, suc, zero, nat_le, true, false, not, true≢false, [], ◌∷◌, length, Result, Ok, Err, refl, sym, ap, ◌∙◌, arith}
+use Rattle.command_line.proofs.Vocabulary.{◌≡◌, ◌<◌, ◌≤◌, ◌&&◌, ℕ, suc, zero, nat_le, true, false, not, true≢false, [], ◌∷◌, length, Result, Ok, Err, refl, sym, ap, ◌∙◌, arith, list_all, all_ascii_digits, leb-true, lt-leb, ne_eqb, Word, number_of, is_number_within, is_value, is_file_name}
 use Rattle.std.specs.Char.{is_ascii_digit}
 use Rattle.std.specs.Int.{IsInRange}
-use Rattle.std.specs.List.{list_all}
-use Rattle.std.specs.Str.{all_ascii_digits}
 use Rattle.std.specs.Str.Parse.{ParsesUnsigned}
-use Rattle.std.proofs.lemmas.Bool.{leb-true, lt-leb, ne_eqb}
 use Rattle.std.proofs.lemmas.Str.Parse.{IsNumeralModel, numerals_by_value, tells_all_ascii_digits, parse_digits, parse_gives, digits_value_short, not_in_digits}
 use Rattle.command_line.specs.declared.table.ValueKind.{ValueKind}
 use Rattle.command_line.specs.declared.table.ValueKind.TheVariants.{File, Registers, Seed, Period}
-use Rattle.command_line.specs.CommandTable.{Word}
-use Rattle.command_line.specs.Commands.{number_of, is_number_within, is_value, is_file_name}
 use Rattle.command_line.proofs.GivenOptions.{both}
 use Rattle.command_line.proofs.PeriodWords.{period_first}
 

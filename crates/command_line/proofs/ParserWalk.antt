@@ -1,23 +1,10 @@
 -- How `clap` walks over options with their values.
-use Rattle.std.proofs.Common.{◌≡◌, ◌||◌, ◌++◌, Bool, true, false, cond, List, [], ◌∷◌, map, fold, Some, None, refl, sym, ap, ◌∙◌, subst, true≢false, codes, ◌==◌}
-use Rattle.std.specs.Str.{bytes_eq}
-use Rattle.std.specs.List.{AllByRecursion, IsDistinct, list_all}
-use Rattle.std.specs.Map.{keys_of}
-use Rattle.std.specs.Cmp.Lexicographic.{nat_list_eq_equiv}
+use Rattle.command_line.proofs.Vocabulary.{◌≡◌, ◌||◌, ◌++◌, Bool, true, false, cond, List, [], ◌∷◌, map, fold, Some, None, refl, sym, ap, ◌∙◌, subst, true≢false, codes, ◌==◌, bytes_eq, AllByRecursion, IsDistinct, list_all, keys_of, nat_list_eq_equiv, append_assoc, list_any-append, IsDistinct-head, IsDistinct-tail, long_of, short_of, Held, Row, Rule, Text, Walk, option, arg_by_id, arg_by_long, at_row, default_rows, has_row, more_values, nothing_held, reading_by, rows_after, settled, walk, walk_from, walked, with_default, Shape, filled, new_rule, default_passes, is_valid, level_passes, settle_passes, turn_passes, walk_passes, Word, Given, is_file_name, option_words, long_name}
 use Rattle.std.proofs.Math.Bool.{and-true}
-use Rattle.std.proofs.lemmas.List.{append-nil, append_assoc}
-use Rattle.std.proofs.lemmas.List.Folds.{list_any-append}
-use Rattle.std.proofs.lemmas.Map.Keys.{IsDistinct-head, IsDistinct-tail}
-use Rattle.clap.specs.Lexer.{long_of, short_of}
-use Rattle.clap.specs.Walk.{Held, Row, Rule, Text, Walk, option, arg_by_id, arg_by_long, at_row, default_rows, has_row, more_values, nothing_held, reading_by, rows_after, settled, walk, walk_from, walked, with_default}
-use Rattle.clap.specs.Simple.{Shape, filled, new_rule}
+use Rattle.std.proofs.lemmas.List.{append-nil}
 use Rattle.clap.specs.declared.builder.action.ArgAction.TheVariants.{Set}
-use Rattle.clap.specs.Takes.{default_passes, is_valid, level_passes, settle_passes, turn_passes, walk_passes}
 use Rattle.clap.specs.declared.parser.matches.ValueSource.TheVariants.{CommandLine}
 use Rattle.clap.specs.declared.builder.value_parser.Reading.TheVariants.{AsWritten}
-use Rattle.command_line.specs.CommandTable.{Word}
-use Rattle.command_line.specs.Commands.{Given, is_file_name, option_words}
-use Rattle.command_line.specs.Parsers.{long_name}
 use Rattle.command_line.proofs.GivenOptions.{is_false}
 
 -- the row that an option and its value leave

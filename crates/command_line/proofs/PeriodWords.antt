@@ -1,18 +1,13 @@
 -- The words that a period may be: each spells a fraction within the condition, and the spelling of
 -- each such fraction is one of them.
-use Rattle.std.proofs.Common.{◌≡◌, ◌↔◌, ◌<◌, ◌≤◌, ◌+◌, ◌-◌, ◌++◌, ◌^◌, not, ℕ, ℤ, pos, negsuc, ◌≤ℤ◌, ◌<ℤ◌, nat_abs, Bool, true, false, cond, IsTrue, List, [], ◌∷◌, length, get_or, decimal, true≢false, refl, sym, ap, ◌∙◌, subst, append-nil, arith}
+use Rattle.command_line.proofs.Vocabulary.{◌≡◌, ◌↔◌, ◌<◌, ◌≤◌, ◌+◌, ◌-◌, ◌++◌, ◌^◌, not, ℕ, ℤ, pos, negsuc, ◌≤ℤ◌, ◌<ℤ◌, nat_abs, Bool, true, false, cond, IsTrue, List, [], ◌∷◌, length, get_or, decimal, true≢false, refl, sym, ap, ◌∙◌, subst, append-nil, arith, list_any, range_with_len, bytes_eq, ne_eqb, Any-from_list_any, list_any_at, bytes_eq-Decides, Word, is_file_name, is_period, spells_quotient}
 use Rattle.std.specs.Fmt.{signed_decimal}
 use Rattle.std.specs.Int.RustNames.{int_div}
-use Rattle.std.specs.List.{list_any, range_with_len}
 use Rattle.std.specs.Ordering.{int_eq}
-use Rattle.std.specs.Str.{bytes_eq}
 use Rattle.std.proofs.Math.Nat.{div-le_self}
-use Rattle.std.proofs.lemmas.Bool.{ne_eqb}
 use Rattle.std.proofs.lemmas.Fmt.{decimal_is_IsNumeral_wide}
 use Rattle.std.proofs.lemmas.Int.{ints}
-use Rattle.std.proofs.lemmas.List.Folds.{Any-from_list_any, list_any_at}
 use Rattle.std.proofs.lemmas.List.FromFn.{get_or-range_with_len, length-range_with_len}
-use Rattle.std.proofs.lemmas.Slice.Eq.{bytes_eq-Decides}
 use Rattle.cts_base.specs.declared.fraction.Fraction.{Fraction}
 use Rattle.cts_base.specs.Fractions.{HasSizeBelow, divisor_up_to, fraction_text, quotient_text}
 use Rattle.cts_base.proofs.GreatestDivisors.{quotient_text_is, up_to_second}
@@ -20,8 +15,6 @@ use Rattle.cts_base.proofs.OneNumberText.{AreDigits, decimal_digits}
 use Rattle.cts_base.proofs.Quotients.{lowest_quotients}
 use Rattle.cts_model.proofs.ScaleLemmas.{size_same}
 use Rattle.cts_model.specs.timing.Schedules.{IsMarginPeriod}
-use Rattle.command_line.specs.CommandTable.{Word}
-use Rattle.command_line.specs.Commands.{is_file_name, is_period, spells_quotient}
 
 -- ---- quotients
 

@@ -1,23 +1,9 @@
 -- Words that mean a command pass the reader's test, and no others do.
-use Rattle.std.proofs.Common.{ℕ, ◌≡◌, ◌≤◌, nat_le, ◌∷◌, ◌++◌, ◌||◌, ◌&&◌, not, true, false, List, [], drop, length, map, string_bytes, String, Global, Option, Some, None, refl, sym, ap, ap₂, ◌∙◌, get_or, append-nil, true≢false, arith}
+use Rattle.command_line.proofs.Vocabulary.{ℕ, ◌≡◌, ◌≤◌, nat_le, ◌∷◌, ◌++◌, ◌||◌, ◌&&◌, not, true, false, List, [], drop, length, map, string_bytes, String, Global, Option, Some, None, refl, sym, ap, ap₂, ◌∙◌, get_or, append-nil, true≢false, arith, bytes_eq, IsDistinct, list_all, IsPermutation, keys_of, nat_list_eq_equiv, leb-true, length-map, length_permutation, IsPermutation-sym, IsPermutation-map, All-permutation, list_any-IsPermutation, IsDistinct-IsPermutation, Form, Zero, Schedule, Synth, Check, Demo, Margin, Embed, Moves, Corners, Choice, Word, word_of, is_required, form_of, form_name, form_named, choices_of, table_bounds, takes_tables, Given, IsTaken, name_of, values_of, options_of, tables_of, are_tables, listed, option_words, is_file_name, HasValidTables, HasValidValues, IsCommand, IsSame, has_option, are_options, has_required, are_plain, before_tables, tables_among, has_values, IsPlainHead, IsPlain}
 use Rattle.std.specs.Borrow.{Bor}
-use Rattle.std.specs.Str.{bytes_eq}
-use Rattle.std.specs.List.{IsDistinct, list_all}
-use Rattle.std.specs.List.Sorted.{IsPermutation}
-use Rattle.std.specs.Map.{keys_of}
-use Rattle.std.specs.Cmp.Lexicographic.{nat_list_eq_equiv}
-use Rattle.std.proofs.lemmas.Bool.{leb-true}
-use Rattle.std.proofs.lemmas.List.{length-map}
-use Rattle.std.proofs.lemmas.List.Sorted.{length_permutation, IsPermutation-sym, IsPermutation-map, All-permutation, list_any-IsPermutation}
-use Rattle.std.proofs.lemmas.Map.Keys.{IsDistinct-IsPermutation}
 use Rattle.command_line.specs.declared.command.Command.{Command}
 use Rattle.command_line.specs.declared.command.Command.TheVariants as command
-use Rattle.command_line.specs.declared.table.Form.{Form}
-use Rattle.command_line.specs.declared.table.Form.TheVariants.{Zero, Period, Schedule, Synth, Check, Demo, Margin, Embed, Moves, Corners}
-use Rattle.command_line.specs.declared.table.Choice.{Choice}
-use Rattle.command_line.specs.CommandTable.{Word, word_of, is_required, form_of, form_name, form_named, choices_of, table_bounds, takes_tables}
-use Rattle.command_line.specs.Commands.{Given, IsTaken, name_of, values_of, options_of, tables_of, are_tables, listed, option_words, is_file_name, HasValidTables, HasValidValues, IsCommand, IsSame}
-use Rattle.command_line.specs.PlainWords.{has_option, are_options, has_required, are_plain, before_tables, tables_among, has_values, IsPlainHead, IsPlain}
+use Rattle.command_line.specs.declared.table.Form.TheVariants.{Period}
 use Rattle.command_line.proofs.GivenOptions.{both, has_option-given, has_option-value, SpellsOptions, spells_options, are_options-given, values_in, in_order, value_of-permutes, in_order-permutes}
 
 -- ---- the table
@@ -335,8 +321,7 @@ module _ (words : List Word) (form : Form) (plain : IsPlainHead words form) wher
 
 -- so plain words mean the command that has these values and these tables
 pub means_command : (words tables : List Word) (form : Form) (plain : IsPlain words tables form)
-    → (command : Command) → form_of command ≡ form
-    → values_of command
+    → (command : Command) → form_of command ≡ form → values_of command
     ≡ values_in (choices_of form) (spelled plain.head form plain.plain).given
     → tables_of command ≡ tables → IsCommand words command
 means_command words tables form plain command has values stands =

@@ -1,13 +1,6 @@
 -- What the reader's tests of words come to on lists of words that were read one by one.
-use Rattle.std.proofs.Common.{◌≡◌, ◌<◌, ◌≤◌, ◌-◌, ◌*◌, ◌&&◌, ◌||◌, ◌==◌, Bool, true, false, if◌then◌else◌, List, [], ◌∷◌, ◌++◌, length, map, take, drop, refl, sym, ap, ◌∙◌, subst, arith, get_or, append-nil, length-append}
+use Rattle.command_line.proofs.Vocabulary.{◌≡◌, ◌<◌, ◌≤◌, ◌-◌, ◌*◌, ◌&&◌, ◌||◌, ◌==◌, Bool, true, false, if◌then◌else◌, List, [], ◌∷◌, ◌++◌, length, map, take, drop, refl, sym, ap, ◌∙◌, subst, arith, get_or, append-nil, length-append, list_all, bytes_eq, take_all, take-append-drop, take-map, drop-map, length-map, map-append, Choice, Form, Word, choices_of, takes_tables, has_option, is_option, are_options, before_tables, tables_among, IsPlainHead, IsPlain}
 use Rattle.std.proofs.Math.Seq.{take-append_seam}
-use Rattle.std.specs.List.{list_all}
-use Rattle.std.specs.Str.{bytes_eq}
-use Rattle.std.proofs.lemmas.List.{take_all, take-append-drop, take-map, drop-map, length-map, map-append}
-use Rattle.command_line.specs.declared.table.Choice.{Choice}
-use Rattle.command_line.specs.declared.table.Form.{Form}
-use Rattle.command_line.specs.CommandTable.{Word, choices_of, takes_tables}
-use Rattle.command_line.specs.PlainWords.{has_option, is_option, are_options, before_tables, tables_among, IsPlainHead, IsPlain}
 
 module _ {X : Type 0} where
   -- what stands after the first of a list, as a slice pattern gives it

@@ -93,8 +93,7 @@ module _ {circuit : Circuit} {tech : Tech} {pairs : List PairDelay}
 
     -- where all are satisfied, every path has such a pair
     satisfied_path : Satisfies (constraints_of_pairs tech pairs) scale period arrival
-        → (from to : ℕ) (path : List ℕ) → IsPath circuit from to path
-        → IsSatisfiedPath from to path
+        → (from to : ℕ) (path : List ℕ) → IsPath circuit from to path → IsSatisfiedPath from to path
     satisfied_path satisfied from to path is_path =
         let Satisfied = IsSatisfied scale period arrival in
         let (place, pair, within, here, (from_is, to_is)) = lists.all from to path is_path in
@@ -151,8 +150,7 @@ both_small registers tech pair from to small =
 
 -- and so are those of few such pairs
 pub small_of_few : (tech : Tech) {registers : ℕ} {pairs : List PairDelay} → All IsSmallPair pairs
-    → AreFewPairs registers pairs
-    → AreSmallConstraints registers (constraints_of_pairs tech pairs)
+    → AreFewPairs registers pairs → AreSmallConstraints registers (constraints_of_pairs tech pairs)
 small_of_few tech {registers} {pairs} small are_few = record {
   some = are_few.some;
   not_many = are_few.not_many;

@@ -1,22 +1,5 @@
 -- The combined list of a circuit's constraints by the table of each corner.
-use Rattle.std.proofs.Common.{◌≡◌, ◌<◌, ◌≤◌, ◌+◌, ◌∙◌, ℕ, ℤ, List, [], ◌∷◌, ◌++◌, length, get_or, Option, Some, None, inl, inr, refl, sym, ap, subst, arith}
-use Rattle.std.specs.List.{All, slice_get}
-use Rattle.std.specs.Prelude.{IsSomeAnd}
-use Rattle.std.proofs.lemmas.Bool.{cases_lt}
-use Rattle.std.proofs.lemmas.Int.{ints}
-use Rattle.std.proofs.lemmas.List.{get_or_append_left, get_or_default, length-append}
-use Rattle.std.proofs.lemmas.Option.{slice_get_within, slice_get-get_or, same_Some}
-use Rattle.std.proofs.Math.Seq.{get_or-append_seam}
-use Rattle.cts_model.specs.declared.circuit.Circuit.{Circuit}
-use Rattle.cts_model.specs.declared.constraint.Constraint.{Constraint}
-use Rattle.cts_model.specs.declared.tech.Tech.{Tech}
-use Rattle.cts_model.specs.timing.Constraints.{IsConstraintOf, Satisfies}
-use Rattle.corners.specs.declared.fold.Combined.{Combined}
-use Rattle.corners.specs.CommonPeriods.{MeetsEach}
-use Rattle.corners.specs.CornerConstraints.{AreCommonConstraints, AreConstraintsBy, IsCombined}
-use Rattle.corners.specs.CornerCycles.{IsConstraintIn, IsOfCorner}
-use Rattle.corners.specs.CornerLists.{AreAlike, AreCorners, AreParallel, constraint_at, list_of}
-use Rattle.corners.specs.GreatestWeights.{weight_at}
+use Rattle.corners.proofs.Vocabulary.{◌≡◌, ◌<◌, ◌≤◌, ◌+◌, ◌∙◌, ℕ, ℤ, List, [], ◌∷◌, ◌++◌, length, get_or, Option, Some, None, inl, inr, refl, sym, ap, subst, arith, All, slice_get, IsSomeAnd, cases_lt, ints, get_or_append_left, get_or_default, length-append, slice_get_within, slice_get-get_or, same_Some, get_or-append_seam, Circuit, Constraint, Tech, IsConstraintOf, Satisfies, Combined, MeetsEach, AreCommonConstraints, AreConstraintsBy, IsCombined, IsConstraintIn, IsOfCorner, AreAlike, AreCorners, AreParallel, constraint_at, list_of, weight_at}
 use Rattle.corners.proofs.OneWeight.{one_weight}
 use Rattle.corners.proofs.ParallelLemmas.{parallel_by_tables}
 use Rattle.corners.proofs.SatisfiedLemmas.{satisfied_where_each}

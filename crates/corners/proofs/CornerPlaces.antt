@@ -1,14 +1,5 @@
 -- What stands at places of a list, and the corners of the constraints there.
-use Rattle.std.proofs.Common.{◌≡◌, ◌<◌, ◌+◌, ◌∙◌, ℕ, zero, suc, List, [], ◌∷◌, ◌++◌, length, take, get_or, refl, sym, ap, subst, arith}
-use Rattle.std.specs.List.{All, cons_option, filter_map, slice_get}
-use Rattle.std.proofs.lemmas.List.{take_more}
-use Rattle.std.proofs.lemmas.List.Elements.{All-get_or, All-head, All-tail, filter_map-append}
-use Rattle.std.proofs.lemmas.Option.{slice_get-get_or}
-use Rattle.cts_model.specs.declared.circuit.Circuit.{Circuit}
-use Rattle.cts_model.specs.declared.constraint.Constraint.{Constraint}
-use Rattle.cts_model.specs.declared.tech.Tech.{Tech}
-use Rattle.corners.specs.CornerCycles.{AreOfCorners, IsOfCorner}
-use Rattle.corners.specs.CornerLists.{no_constraint, constraint_at}
+use Rattle.corners.proofs.Vocabulary.{◌≡◌, ◌<◌, ◌+◌, ◌∙◌, ℕ, zero, suc, List, [], ◌∷◌, ◌++◌, length, take, get_or, refl, sym, ap, subst, arith, All, cons_option, filter_map, slice_get, take_more, All-get_or, All-head, All-tail, filter_map-append, slice_get-get_or, Circuit, Constraint, Tech, AreOfCorners, IsOfCorner, no_constraint, constraint_at}
 
 -- what stands at the next place comes after what stands at those before
 pub at_places_more : {X : Type 0} (xs : List X) (places : List ℕ) (at start : ℕ) (default : X)

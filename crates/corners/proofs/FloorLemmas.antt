@@ -1,14 +1,6 @@
 -- The greatest of the floors of the corners so far.
-use Rattle.std.proofs.Common.{◌≡◌, ◌<◌, ◌≤◌, ◌+◌, ℕ, ℤ, ◌≤ℤ◌, Bool, true, false, cond, List, length, get_or, inl, inr, refl, to_z, of_z, arith}
-use Rattle.std.specs.Int.{int_max, w128}
+use Rattle.corners.proofs.Vocabulary.{◌≡◌, ◌<◌, ◌≤◌, ◌+◌, ℕ, ℤ, ◌≤ℤ◌, Bool, true, false, cond, List, length, get_or, inl, inr, refl, to_z, of_z, arith, int_max, w128, Any, cases_lt, ints, clamps, get_or_default, Tech, IsSmallFloor, IsGreatestOf}
 use Rattle.std.specs.Int.Signed.{lt_z}
-use Rattle.std.specs.List.{Any}
-use Rattle.std.proofs.lemmas.Bool.{cases_lt}
-use Rattle.std.proofs.lemmas.Int.{ints, clamps}
-use Rattle.std.proofs.lemmas.List.{get_or_default}
-use Rattle.cts_model.specs.declared.tech.Tech.{Tech}
-use Rattle.critical_cycle.specs.Floors.{IsSmallFloor}
-use Rattle.corners.specs.CornerConstraints.{IsGreatestOf}
 
 -- the number is a floor, and none of so many is greater
 pub record IsGreatestSoFar (techs : List Tech) (before : ℕ) (floor : ℤ) : Type 0 where

@@ -1,15 +1,5 @@
 -- A further list is included in the combined list of those before it, place by place.
-use Rattle.std.proofs.Common.{◌≡◌, ◌<◌, ◌≤◌, ◌+◌, ◌∙◌, ℕ, ◌≤ℤ◌, ◌<ℤ◌, List, [], ◌∷◌, ◌++◌, length, get_or, inl, inr, sym, ap, arith}
-use Rattle.std.proofs.lemmas.Bool.{cases_lt}
-use Rattle.std.proofs.lemmas.Int.{ints}
-use Rattle.std.proofs.lemmas.List.{get_or_append_left, get_or-set_same, get_or-set_other, length-append, length-set}
-use Rattle.std.proofs.lemmas.List.Elements.{All-nil, All-cons, All-append}
-use Rattle.std.proofs.Math.Seq.{get_or-append_seam}
-use Rattle.cts_model.specs.declared.constraint.Constraint.{Constraint}
-use Rattle.corners.specs.declared.fold.Combined.{Combined}
-use Rattle.corners.specs.CornerConstraints.{IsCombined}
-use Rattle.corners.specs.CornerLists.{no_constraint, constraint_at, list_of}
-use Rattle.corners.specs.GreatestWeights.{weight_at, IsGreatestAt, IsCombinedAt}
+use Rattle.corners.proofs.Vocabulary.{◌≡◌, ◌<◌, ◌≤◌, ◌+◌, ◌∙◌, ℕ, ◌≤ℤ◌, ◌<ℤ◌, List, [], ◌∷◌, ◌++◌, length, get_or, inl, inr, sym, ap, arith, cases_lt, ints, get_or_append_left, get_or-set_same, get_or-set_other, length-append, length-set, All-nil, All-cons, All-append, get_or-append_seam, Constraint, Combined, IsCombined, no_constraint, constraint_at, list_of, weight_at, IsGreatestAt, IsCombinedAt}
 use Rattle.corners.specs.Inclusions.{IsKept, IsTaken, IsIncludedAt}
 
 module _ (lists : List (List Constraint)) (list : List Constraint) where
@@ -111,8 +101,7 @@ pub record IsIncluding (lists : List (List Constraint)) (list : List Constraint)
 module _ (lists : List (List Constraint)) (list : List Constraint) (place : ℕ) where
   -- where the further constraint asks for no more, a further place is combined
   kept_next : (old new : Combined) → IsIncluding lists list place old → place < length list
-      → IsKept (constraint_at list place) place old new
-      → IsIncluding lists list (place + 1) new
+      → IsKept (constraint_at list place) place old new → IsIncluding lists list (place + 1) new
   kept_next old new including within kept =
       let one = λ (other : ℕ). ap (λ all. constraint_at all other) kept.constraints in
       let both = λ (other : ℕ). ap (λ all. get_or all other 0) kept.corners in

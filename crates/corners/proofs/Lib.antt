@@ -1,3 +1,4 @@
+mod Vocabulary
 mod InclusionLemmas
 mod SatisfiedLemmas
 mod SmallLemmas

@@ -1,12 +1,5 @@
 -- The constraints of a circuit between two registers have one weight.
-use Rattle.std.proofs.Common.{◌≡◌, ℕ, ℤ, Bool, true, false, arith}
-use Rattle.std.specs.Prelude.{MatchBool}
-use Rattle.std.proofs.lemmas.Int.{ints}
-use Rattle.cts_model.specs.declared.circuit.Circuit.{Circuit}
-use Rattle.cts_model.specs.declared.constraint.Constraint.{Constraint}
-use Rattle.cts_model.specs.declared.tech.Tech.{Tech}
-use Rattle.cts_model.specs.timing.Constraints.{IsSetupConstraint, IsHoldConstraint, IsConstraintOf}
-use Rattle.corners.specs.CornerLists.{AreAlike}
+use Rattle.corners.proofs.Vocabulary.{◌≡◌, ℕ, ℤ, Bool, true, false, arith, MatchBool, ints, Circuit, Constraint, Tech, IsSetupConstraint, IsHoldConstraint, IsConstraintOf, AreAlike}
 
 module _ (circuit : Circuit) (tech : Tech) where
   -- of either kind

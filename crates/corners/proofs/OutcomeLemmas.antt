@@ -1,30 +1,13 @@
 -- From the least period of the combined list to the outcome of the circuit in all corners.
-use Rattle.std.proofs.Common.{◌≡◌, ℕ, ℤ, pos, ◌*ℤ◌, ◌≤ℤ◌, ◌<ℤ◌, List, [], get_or, Option, Some, None, refl, subst, arith}
-use Rattle.std.specs.Prelude.{IsSomeAnd, nat_abs}
-use Rattle.std.specs.List.{slice_get}
-use Rattle.std.proofs.lemmas.Int.{ints}
-use Rattle.std.proofs.lemmas.List.Elements.{All-contains_itself, All-from_get_or, All-weaker}
-use Rattle.std.proofs.lemmas.Option.{get_or_from_slice_get, slice_get_within}
+use Rattle.corners.proofs.Vocabulary.{◌≡◌, ℕ, ℤ, pos, ◌*ℤ◌, ◌≤ℤ◌, ◌<ℤ◌, List, [], get_or, Option, Some, None, refl, subst, arith, IsSomeAnd, nat_abs, slice_get, ints, All-contains_itself, All-from_get_or, All-weaker, get_or_from_slice_get, slice_get_within, Circuit, Constraint, Tech, IsConstraintOf, IsSatisfied, Satisfies, scale_le, size_same, IsSmallFloor, Combined, AreLeastCommonArrivals, HasNoCommonPeriod, IsAboveFloors, IsCommonPeriod, IsLeastCommonPeriod, MeetsEach, AreCommonConstraints, IsGreatestOf, AreOfCorners, IsCommonCritical, IsCommonForbidding, IsGreatestFloor, no_constraint, constraint_at, AreNamedAt}
 use Rattle.cts_base.specs.declared.fraction.Fraction.{Fraction}
-use Rattle.cts_model.specs.declared.circuit.Circuit.{Circuit}
-use Rattle.cts_model.specs.declared.constraint.Constraint.{Constraint}
-use Rattle.cts_model.specs.declared.tech.Tech.{Tech}
-use Rattle.cts_model.specs.timing.Constraints.{IsConstraintOf, IsSatisfied, Satisfies}
 use Rattle.cts_model.specs.timing.Timing.{Meets}
 use Rattle.cts_model.specs.timing.Cycles.{AdmitsPeriod, IsLeastPeriodOf}
 use Rattle.cts_model.specs.timing.Schedules.{IsSmallPeriod, arrival_of}
 use Rattle.cts_model.proofs.CircuitConstraints.{met_constraint}
 use Rattle.cts_model.proofs.CycleLemmas.{forbidden_at_all}
-use Rattle.cts_model.proofs.ScaleLemmas.{scale_le, size_same}
-use Rattle.critical_cycle.specs.Floors.{IsSmallFloor}
 use Rattle.critical_cycle.specs.Periods.{IsForbidden, IsShownPeriod}
 use Rattle.schedule.specs.Schedules.{IsLeastScheduleOf}
-use Rattle.corners.specs.declared.fold.Combined.{Combined}
-use Rattle.corners.specs.CommonPeriods.{AreLeastCommonArrivals, HasNoCommonPeriod, IsAboveFloors, IsCommonPeriod, IsLeastCommonPeriod, MeetsEach}
-use Rattle.corners.specs.CornerConstraints.{AreCommonConstraints, IsGreatestOf}
-use Rattle.corners.specs.CornerCycles.{AreOfCorners, IsCommonCritical, IsCommonForbidding, IsGreatestFloor}
-use Rattle.corners.specs.CornerLists.{no_constraint, constraint_at}
-use Rattle.corners.specs.NamedPlaces.{AreNamedAt}
 use Rattle.corners.proofs.CornerPlaces.{corners_at_places}
 
 -- the period is this whole number

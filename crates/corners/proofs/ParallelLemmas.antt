@@ -1,12 +1,6 @@
 -- The constraints of one circuit by two tables stand side by side.
-use Rattle.std.proofs.Common.{◌≡◌, ◌<◌, ℕ, zero, suc, List, [], ◌∷◌, length, refl, arith}
-use Rattle.cts_model.specs.declared.circuit.Circuit.{Circuit}
-use Rattle.cts_model.specs.declared.constraint.Constraint.{Constraint}
-use Rattle.cts_model.specs.declared.tech.Tech.{Tech}
-use Rattle.cts_model.specs.declared.timing.PairDelay.{PairDelay}
+use Rattle.corners.proofs.Vocabulary.{◌≡◌, ◌<◌, ℕ, zero, suc, List, [], ◌∷◌, length, refl, arith, Circuit, Constraint, Tech, PairDelay, AreConstraintsBy, AreAlike, AreParallel, constraint_at}
 use Rattle.constraints.specs.PairConstraints.{setup_constraint, hold_constraint, constraints_of_pairs}
-use Rattle.corners.specs.CornerConstraints.{AreConstraintsBy}
-use Rattle.corners.specs.CornerLists.{AreAlike, AreParallel, constraint_at}
 use Rattle.corners.proofs.SamePairs.{AreSamePairs, same_for_tables}
 
 -- alike constraints before parallel lists

@@ -1,11 +1,6 @@
 -- Two lists of the joined pairs of one circuit name the same pairs in the same order, whatever the
 -- delays are.
-use Rattle.std.proofs.Common.{◌≡◌, ◌<◌, ◌≤◌, ◌∙◌, ℕ, zero, suc, pos, List, length, get_or, inl, inr, sym, ap, arith}
-use Rattle.std.proofs.lemmas.Bool.{cases_lt}
-use Rattle.std.proofs.lemmas.List.{get_or_default}
-use Rattle.cts_model.specs.declared.circuit.Circuit.{Circuit}
-use Rattle.cts_model.specs.declared.tech.Tech.{Tech}
-use Rattle.cts_model.specs.declared.timing.PairDelay.{PairDelay}
+use Rattle.corners.proofs.Vocabulary.{◌≡◌, ◌<◌, ◌≤◌, ◌∙◌, ℕ, zero, suc, pos, List, length, get_or, inl, inr, sym, ap, arith, cases_lt, get_or_default, Circuit, Tech, PairDelay}
 use Rattle.cts_model.specs.timing.EqualArrivals.{ComesBefore}
 use Rattle.cts_model.specs.timing.PairLists.{AreOrdered, ListsPairs}
 

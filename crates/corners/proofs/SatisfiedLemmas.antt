@@ -1,13 +1,5 @@
 -- What satisfies the combined list satisfies the list of each corner, and the other way round.
-use Rattle.std.proofs.Common.{◌≡◌, ◌<◌, ◌↔◌, ℕ, ℤ, ◌+ℤ◌, ◌≤ℤ◌, List, [], length, get_or, sym, subst, arith}
-use Rattle.std.specs.List.{All}
-use Rattle.std.proofs.lemmas.Int.{ints}
-use Rattle.std.proofs.lemmas.List.{get_or_default}
-use Rattle.cts_model.specs.declared.constraint.Constraint.{Constraint}
-use Rattle.cts_model.specs.timing.Constraints.{IsSatisfied, Satisfies}
-use Rattle.cts_model.proofs.ScaleLemmas.{scale_le}
-use Rattle.corners.specs.CornerLists.{no_constraint, constraint_at, list_of, AreAlike, AreCorners}
-use Rattle.corners.specs.GreatestWeights.{IsCombinedAt}
+use Rattle.corners.proofs.Vocabulary.{◌≡◌, ◌<◌, ◌↔◌, ℕ, ℤ, ◌+ℤ◌, ◌≤ℤ◌, List, [], length, get_or, sym, subst, arith, All, ints, get_or_default, Constraint, IsSatisfied, Satisfies, scale_le, no_constraint, constraint_at, list_of, AreAlike, AreCorners, IsCombinedAt}
 
 -- what is left after more is left after less
 lesser_sum : (tail lesser greater head : ℤ) → lesser ≤ℤ greater → (tail +ℤ greater) ≤ℤ head

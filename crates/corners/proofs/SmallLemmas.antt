@@ -1,11 +1,5 @@
 -- The combined list of small constraints.
-use Rattle.std.proofs.Common.{◌<◌, ◌≤◌, ◌≡◌, ℕ, List, [], length, get_or, arith}
-use Rattle.std.specs.List.{All}
-use Rattle.std.proofs.lemmas.List.{get_or_default}
-use Rattle.cts_model.specs.declared.constraint.Constraint.{Constraint}
-use Rattle.cts_model.specs.timing.Constraints.{AreSmallConstraints}
-use Rattle.corners.specs.CornerLists.{no_constraint, list_of}
-use Rattle.corners.specs.GreatestWeights.{IsCombinedAt}
+use Rattle.corners.proofs.Vocabulary.{◌<◌, ◌≤◌, ◌≡◌, ℕ, List, [], length, get_or, arith, All, get_or_default, Constraint, AreSmallConstraints, no_constraint, list_of, IsCombinedAt}
 
 -- the combined list is of small constraints where each corner's is
 pub small_of_each : (registers : ℕ) (lists : List (List Constraint))

@@ -1,3 +1,4 @@
+mod Vocabulary
 mod IntLemmas
 mod ProductLemmas
 pub mod PlaceLemmas

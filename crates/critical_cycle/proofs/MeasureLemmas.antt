@@ -1,25 +1,9 @@
 -- What the gains of a trial are at its ratio, of one constraint and of a cycle.
-use Rattle.std.proofs.Common.{ℕ, ◌≡◌, ◌≤◌, ◌+◌, ◌*◌, ◌^◌, Bool, true, false, if◌then◌else◌, ℤ, pos, negsuc, neg_ℤ, ◌+ℤ◌, ◌-ℤ◌, ◌*ℤ◌, ◌≤ℤ◌, ◌<ℤ◌, List, [], ◌∷◌, length, get_or, refl, sym, ◌∙◌, ap, subst, arith}
-use Rattle.std.proofs.Math.Nat.{mul-le-mul_left}
-use Rattle.std.proofs.lemmas.Int.{ints}
-use Rattle.std.proofs.lemmas.Nat.{mul-le}
-use Rattle.std.proofs.lemmas.List.Sums.{sum_by-cons}
-use Rattle.cts_base.specs.declared.fraction.Fraction.{Fraction}
-use Rattle.cts_model.specs.declared.constraint.Constraint.{Constraint}
-use Rattle.cts_model.specs.timing.Constraints.{count_of}
-use Rattle.cts_model.specs.timing.Cycles.{total_weight, total_count}
-use Rattle.cts_model.specs.placement.Points.{IsBelow}
-use Rattle.critical_cycle.specs.declared.measure.Measure.{Measure}
-use Rattle.relaxation.specs.declared.gains.Gains.{Gains}
-use Rattle.critical_cycle.specs.Measures.{CanTry, IsTrialAt, SatisfiesRatio, measured_count, cycle_count, cycle_weight, measured_weight}
-use Rattle.critical_cycle.specs.RatioSizes.{most_weight}
+use Rattle.critical_cycle.proofs.Vocabulary.{ℕ, ◌≡◌, ◌≤◌, ◌+◌, ◌*◌, ◌^◌, Bool, true, false, if◌then◌else◌, ℤ, pos, negsuc, neg_ℤ, ◌+ℤ◌, ◌-ℤ◌, ◌*ℤ◌, ◌≤ℤ◌, ◌<ℤ◌, List, [], ◌∷◌, length, get_or, refl, sym, ◌∙◌, ap, subst, arith, mul-le-mul_left, ints, mul-le, sum_by-cons, Fraction, Constraint, count_of, total_weight, total_count, IsBelow, Measure, Gains, CanTry, IsTrialAt, SatisfiesRatio, measured_count, cycle_count, cycle_weight, measured_weight, most_weight, SatisfiesGains, gain_of, total_gain, kept, up, down}
 use Rattle.relaxation.specs.GainSizes.{AreSmallGains}
-use Rattle.relaxation.specs.Gains.{SatisfiesGains, gain_of, total_gain}
-use Rattle.relaxation.proofs.GainLemmas.{kept}
 use Rattle.critical_cycle.proofs.ProductLemmas.{small_product_read}
 use Rattle.critical_cycle.proofs.IntLemmas.{never, once, times-sub, times_times}
 use Rattle.critical_cycle.proofs.SumLemmas.{AreSmallSums}
-use borrow.Author.Differences.{up, down}
 
 -- what is weighed less what is counted, of one and of others
 gains_together : (den num weight weights whole : ℤ) (count counts total : ℕ)

@@ -1,21 +1,9 @@
 -- What the greatest ratio says of the period, and what the answers exclude.
-use Rattle.std.proofs.Common.{ℕ, ◌≡◌, ◌^◌, ◌*◌, ℤ, pos, negsuc, ◌+ℤ◌, ◌-ℤ◌, ◌*ℤ◌, ◌≤ℤ◌, ◌<ℤ◌, false, List, get_or, refl, subst, ap, arith, to_z, of_z, All, Contains}
-use Rattle.std.specs.Prelude.{nat_abs, ◌↔◌}
+use Rattle.critical_cycle.proofs.Vocabulary.{ℕ, ◌≡◌, ◌^◌, ◌*◌, ℤ, pos, negsuc, ◌+ℤ◌, ◌-ℤ◌, ◌*ℤ◌, ◌≤ℤ◌, ◌<ℤ◌, false, List, get_or, refl, subst, ap, arith, to_z, of_z, All, Contains, nat_abs, ◌↔◌, ints, All-contains_itself, Fraction, Constraint, Satisfies, count_of, IsLeastPeriodOf, ShowsPeriod, total_count, total_weight, Measure, AreWithin, constraints_at, CanTry, SatisfiesRatio, ShowsRatio, cycle_count, cycle_weight, HasForbidding, HasSmallValue, IsFloor, IsForbidden, IsNeverPeriod, IsPeriodOf, IsShownPeriod, period_of, IsForbiddenBy, IsRatioOf, IsShownRatio}
 use Rattle.std.specs.Int.{w128}
-use Rattle.std.proofs.lemmas.Int.{ints}
-use Rattle.std.proofs.lemmas.List.Elements.{All-contains_itself}
-use Rattle.cts_base.specs.declared.fraction.Fraction.{Fraction}
-use Rattle.cts_model.specs.declared.constraint.Constraint.{Constraint}
-use Rattle.cts_model.specs.timing.Constraints.{Satisfies, count_of}
-use Rattle.cts_model.specs.timing.Cycles.{IsLeastPeriodOf, ShowsPeriod, total_count, total_weight}
 use Rattle.cts_model.specs.timing.Schedules.{IsSmallPeriod}
 use Rattle.cts_model.proofs.CycleLemmas.{shown_period_is_least, forbidden_at_all}
-use Rattle.critical_cycle.specs.declared.measure.Measure.{Measure}
-use Rattle.critical_cycle.specs.CyclePlaces.{AreWithin, constraints_at}
 use Rattle.critical_cycle.specs.Floors.{IsSmallFloor}
-use Rattle.critical_cycle.specs.Measures.{CanTry, SatisfiesRatio, ShowsRatio, cycle_count, cycle_weight}
-use Rattle.critical_cycle.specs.Periods.{HasForbidding, HasSmallValue, IsFloor, IsForbidden, IsNeverPeriod, IsPeriodOf, IsShownPeriod, period_of}
-use Rattle.critical_cycle.specs.Ratios.{IsForbiddenBy, IsRatioOf, IsShownRatio}
 use Rattle.critical_cycle.specs.declared.period.Period.{Period}
 use Rattle.critical_cycle.specs.declared.period.Period.TheVariants.{Cycle, Floor, Never}
 use Rattle.critical_cycle.specs.declared.ratio.Ratio.{Ratio}
@@ -119,8 +107,7 @@ module _ {measure : Measure} (plain : IsPlain measure) where
 
   -- what is shown above the floor is the least period
   pub period_shown : (constraints : List Constraint) (floor : ℤ) (first value : Fraction)
-      (cycle : List ℕ) → IsWhole floor first
-      → IsShownRatio measure constraints first value cycle
+      (cycle : List ℕ) → IsWhole floor first → IsShownRatio measure constraints first value cycle
       → IsShownPeriod constraints floor value cycle
   period_shown constraints floor first value cycle whole is =
       let size = size_is value.den value.lowest.some_den in
@@ -184,8 +171,7 @@ module _ {measure : Measure} (plain : IsPlain measure) where
 
   -- the floor is the least period where it is enough
   pub floor_enough : (constraints : List Constraint) (floor : ℤ) (first : Fraction)
-      → IsWhole floor first
-      → (arrival : ℕ → ℤ) × SatisfiesRatio measure constraints first arrival
+      → IsWhole floor first → (arrival : ℕ → ℤ) × SatisfiesRatio measure constraints first arrival
       → IsLeastPeriodOf constraints floor floor 1
   floor_enough constraints floor first whole satisfied =
       let at = satisfies_plain constraints first satisfied.0 satisfied.1 in

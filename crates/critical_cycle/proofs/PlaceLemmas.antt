@@ -1,10 +1,5 @@
 -- The constraints at places of a list: one for each place.
-use Rattle.std.proofs.Common.{ℕ, ◌≡◌, ◌<◌, ◌≤◌, List, [], ◌∷◌, length, get_or, refl, sym, ◌∙◌, ap, subst, All, suc, false, pos}
-use Rattle.std.proofs.lemmas.List.Elements.{All-nil, All-cons, All-head, All-tail}
-use Rattle.std.proofs.lemmas.Option.{slice_get-get_or}
-use Rattle.std.specs.List.{cons_option}
-use Rattle.cts_model.specs.declared.constraint.Constraint.{Constraint}
-use Rattle.critical_cycle.specs.CyclePlaces.{AreWithin, IsFromLowest, constraints_at, tail_at}
+use Rattle.critical_cycle.proofs.Vocabulary.{ℕ, ◌≡◌, ◌<◌, ◌≤◌, List, [], ◌∷◌, length, get_or, refl, sym, ◌∙◌, ap, subst, All, suc, false, pos, All-nil, All-cons, All-head, All-tail, slice_get-get_or, cons_option, Constraint, AreWithin, IsFromLowest, constraints_at, tail_at}
 use Rattle.std.specs.Option.{option_map_or}
 
 -- what stands at no place
@@ -13,9 +8,7 @@ unread = record { setup = false; tail = 0; head = 0; weight = pos 0 }
 
 -- the constraint at the first place comes first
 pub constraints_at-cons : (constraints : List Constraint) (place : ℕ) (places : List ℕ)
-    (d : Constraint)
-    → place < length constraints
-    → constraints_at constraints (place ∷ places)
+    (d : Constraint) → place < length constraints → constraints_at constraints (place ∷ places)
     ≡ get_or constraints place d ∷ constraints_at constraints places
 constraints_at-cons constraints place places d within =
     ap (λ o. cons_option o (constraints_at constraints places))
@@ -32,8 +25,7 @@ length-constraints_at constraints (place ∷ places) within =
 
 -- the tail at a place is that of the constraint there
 tail_at_is : (constraints : List Constraint) (place : ℕ) (d : Constraint)
-    → place < length constraints
-    → tail_at constraints place ≡ (get_or constraints place d).tail
+    → place < length constraints → tail_at constraints place ≡ (get_or constraints place d).tail
 tail_at_is constraints place d within =
     ap (λ o. option_map_or (λ (c : Constraint). c.tail) o 0)
     (slice_get-get_or constraints place d within)

@@ -1,11 +1,6 @@
 -- Products of small numbers, and that the code's are the same.
-use Rattle.std.proofs.Common.{◌≡◌, ◌≤◌, ◌^◌, ℤ, ◌-ℤ◌, ◌*ℤ◌, FitsSigned, arith}
-use Rattle.std.proofs.lemmas.Int.{ints, unsigned_abs-mul}
-use Rattle.std.proofs.lemmas.Nat.{mul-le}
+use Rattle.critical_cycle.proofs.Vocabulary.{◌≡◌, ◌≤◌, ◌^◌, ℤ, ◌-ℤ◌, ◌*ℤ◌, FitsSigned, arith, ints, unsigned_abs-mul, mul-le, unsigned_abs, IsBelow, below_size, kept, product_read, size_within}
 use Rattle.std.specs.Int.{w128}
-use Rattle.std.specs.Prelude.{unsigned_abs}
-use Rattle.cts_model.specs.placement.Points.{IsBelow}
-use Rattle.relaxation.proofs.GainLemmas.{below_size, kept, product_read, size_within}
 
 -- a product of small numbers is small
 pub product_small : (a b : ℤ) → IsBelow (2 ^ 63) a → IsBelow (2 ^ 63) b → IsBelow (2 ^ 126) (a *ℤ b)

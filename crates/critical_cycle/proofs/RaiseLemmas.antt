@@ -1,18 +1,7 @@
 -- What the sums of a cycle say of a ratio that is tried: whether it is enough, and the greater
 -- value.
-use Rattle.std.proofs.Common.{ℕ, ◌≡◌, ◌≤◌, ◌+◌, ◌*◌, ℤ, pos, negsuc, neg_ℤ, ◌*ℤ◌, ◌≤ℤ◌, ◌<ℤ◌, List, refl, ap, arith, zero, suc, of_z}
-use mir.Syntax.{w128}
-use Rattle.std.specs.Prelude.{nat_abs}
-use Rattle.std.proofs.Math.Nat.{mul-le-mul_left}
-use Rattle.std.proofs.lemmas.Int.{ints, by_lt_z}
-use Rattle.cts_base.specs.declared.fraction.Fraction.{Fraction}
-use Rattle.cts_model.specs.declared.constraint.Constraint.{Constraint}
-use Rattle.critical_cycle.specs.declared.measure.Measure.{Measure}
-use Rattle.critical_cycle.specs.Measures.{cycle_count, cycle_weight}
-use Rattle.critical_cycle.specs.RatioSizes.{most_weight}
-use Rattle.critical_cycle.specs.Raises.{IsRaisedTo, NeverCounts}
+use Rattle.critical_cycle.proofs.Vocabulary.{ℕ, ◌≡◌, ◌≤◌, ◌+◌, ◌*◌, ℤ, pos, negsuc, neg_ℤ, ◌*ℤ◌, ◌≤ℤ◌, ◌<ℤ◌, List, refl, ap, arith, zero, suc, of_z, w128, nat_abs, mul-le-mul_left, ints, by_lt_z, Fraction, Constraint, Measure, cycle_count, cycle_weight, most_weight, IsRaisedTo, NeverCounts, up, down}
 use Rattle.critical_cycle.proofs.MeasureLemmas.{AreSmallIn}
-use borrow.Author.Differences.{up, down}
 
 -- a number of at least 1 is its size
 pub size_is : (number : ℤ) → pos 1 ≤ℤ number → pos (nat_abs number) ≡ number

@@ -1,12 +1,5 @@
 -- What is shown when the search ends is shown by the rotated cycle.
-use Rattle.std.proofs.Common.{ℕ, ◌≡◌, ◌++◌, ℤ, List, take, drop, refl}
-use Rattle.cts_base.specs.declared.fraction.Fraction.{Fraction}
-use Rattle.cts_model.specs.declared.constraint.Constraint.{Constraint}
-use Rattle.critical_cycle.specs.declared.measure.Measure.{Measure}
-use Rattle.critical_cycle.specs.CyclePlaces.{IsFromLowest, constraints_at}
-use Rattle.critical_cycle.specs.Measures.{SatisfiesRatio, cycle_count, cycle_weight}
-use Rattle.critical_cycle.specs.Ratios.{IsForbiddenBy, IsShownRatio}
-use Rattle.critical_cycle.specs.ShownRatios.{IsNeverShown, IsValueShown}
+use Rattle.critical_cycle.proofs.Vocabulary.{ℕ, ◌≡◌, ◌++◌, ℤ, List, take, drop, refl, Fraction, Constraint, Measure, IsFromLowest, constraints_at, SatisfiesRatio, cycle_count, cycle_weight, IsForbiddenBy, IsShownRatio, IsNeverShown, IsValueShown}
 use Rattle.critical_cycle.proofs.Turns.{rotated_cycle, rotated_weight, rotated_count, rotated_length, rotated_within}
 
 module _ (measure : Measure) (constraints : List Constraint) (cycle rotated : List ℕ) (turn : ℕ)

@@ -1,20 +1,7 @@
 -- Going round a ring of parents: the constraints gone by lead on from the register reached to the
 -- first.
-use Rattle.std.proofs.Common.{ℕ, ◌≡◌, ◌≢◌, ◌<◌, ◌≤◌, ◌+◌, ◌-◌, ℤ, pos, ◌+ℤ◌, ◌<ℤ◌, List, [], ◌∷◌, ◌++◌, length, set, drop, Some, refl, sym, ◌∙◌, ap, subst, arith, All, AllPairs, get_or}
-use Rattle.std.proofs.lemmas.Int.{ints}
-use Rattle.std.proofs.lemmas.List.{length-set, length-append, length-drop, drop-set, drop_all}
-use Rattle.std.proofs.lemmas.List.Elements.{All-nil, All-cons, All-head, All-tail}
+use Rattle.critical_cycle.proofs.Vocabulary.{ℕ, ◌≡◌, ◌≢◌, ◌<◌, ◌≤◌, ◌+◌, ◌-◌, ℤ, pos, ◌+ℤ◌, ◌<ℤ◌, List, [], ◌∷◌, ◌++◌, length, set, drop, Some, refl, sym, ◌∙◌, ap, subst, arith, All, AllPairs, get_or, ints, length-set, length-append, length-drop, drop-set, drop_all, All-nil, All-cons, All-head, All-tail, slice_get_within, get_or_from_slice_get, AreSmallConstraints, slice_get, cons_option, Constraint, Leads, IsCycle, Gains, gain_of, total_gain, AreParents, EndsClimb, parent_of, Climbs, AreWithin, constraints_at}
 use Rattle.std.proofs.lemmas.List.Kept.{AllPairs-cons}
-use Rattle.std.proofs.lemmas.Option.{slice_get_within, get_or_from_slice_get}
-use Rattle.cts_model.specs.timing.Constraints.{AreSmallConstraints}
-use Rattle.std.specs.Prelude.{slice_get}
-use Rattle.std.specs.List.{cons_option}
-use Rattle.cts_model.specs.declared.constraint.Constraint.{Constraint}
-use Rattle.cts_model.specs.timing.Cycles.{Leads, IsCycle}
-use Rattle.relaxation.specs.declared.gains.Gains.{Gains}
-use Rattle.relaxation.specs.Gains.{gain_of, total_gain}
-use Rattle.relaxation.specs.Parents.{AreParents, EndsClimb, parent_of, Climbs}
-use Rattle.critical_cycle.specs.CyclePlaces.{AreWithin, constraints_at}
 use Rattle.critical_cycle.proofs.PlaceLemmas.{length-constraints_at}
 use Rattle.critical_cycle.proofs.Turns.{cycle_from_closed}
 use Rattle.relaxation.proofs.Climbs.{climbs_push, direct_climb, IsDirect, not_passed, parent_place, ring_at_end}
@@ -101,8 +88,7 @@ module _ (constraints : List Constraint) (parents : List ℕ) where
 
     gone_more : (start register : ℕ) → IsGone constraints parents places start at register → 0 < at
         → slice_get constraints place ≡ Some next → parent_of constraints parents register
-        ≡ Some next
-        → next.head ≡ register
+        ≡ Some next → next.head ≡ register
         → All (λ gone. next.tail ≢ gone.tail) (constraints_at constraints (drop at places))
         → IsGone constraints parents (set places (at - 1) place) start (at - 1) next.tail
     gone_more start register gone some here reads head apart =
@@ -135,8 +121,7 @@ module _ (constraints : List Constraint) (parents : List ℕ) where
   -- the next step's parent, where what is left isn't all gone by
   left_more : (places : List ℕ) (start at : ℕ) (next : Constraint) (rest : List Constraint)
       → Climbs constraints parents next.tail rest start → IsDirect start next.tail rest
-      → next.tail ≢ start → length rest ≤ at
-      → All (λ step. All (λ gone. step.tail ≢ gone.tail)
+      → next.tail ≢ start → length rest ≤ at → All (λ step. All (λ gone. step.tail ≢ gone.tail)
       (constraints_at constraints (drop at places))) rest
       → IsLeft constraints parents places start at next.tail
   left_more places start at next [] climbs direct goes_on fits apart = absurd (goes_on climbs)
@@ -262,8 +247,7 @@ module _ (constraints : List Constraint) (parents : List ℕ) where
 
   -- what is gone by where the walk is back has a cycle's constraints
   pub gone_cycle : (places : List ℕ) (start at : ℕ) → IsGone constraints parents places start at
-      start
-      → at < length places → IsCycle (constraints_at constraints (drop at places))
+      start → at < length places → IsCycle (constraints_at constraints (drop at places))
   gone_cycle places start at gone some =
       cycle_from_closed (constraints_at constraints (drop at places)) start
       (omega (
@@ -275,10 +259,8 @@ module _ (constraints : List Constraint) (parents : List ℕ) where
 
   -- and a total above 0
   pub gone_gains : (places : List ℕ) (start at : ℕ) → IsGone constraints parents places start at
-      start
-      → at < length places → (trial : Gains) (values : List ℤ) → AreParents constraints trial
-      values parents
-      → pos 0 <ℤ total_gain trial (constraints_at constraints (drop at places))
+      start → at < length places → (trial : Gains) (values : List ℤ) → AreParents constraints trial
+      values parents → pos 0 <ℤ total_gain trial (constraints_at constraints (drop at places))
   gone_gains places start at gone some trial values are =
       subst (λ total. pos 0 <ℤ total) (gone.gained trial)
       (are.rings start gone.climbed (omega (arith, gone.long)) gone.climbs)

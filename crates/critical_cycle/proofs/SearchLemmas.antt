@@ -1,29 +1,12 @@
 -- What a trial and a raise leave shown.
-use Rattle.std.proofs.Common.{ℕ, ◌≡◌, ◌<◌, ◌≤◌, ◌+◌, ◌*◌, ℤ, pos, neg_ℤ, ◌*ℤ◌, ◌≤ℤ◌, ◌<ℤ◌, List, Option, Some, None, refl, sym, subst, arith, false}
-use Rattle.std.specs.Prelude.{MatchOption, nat_abs}
-use Rattle.std.proofs.Math.Nat.{mul-le-mul_left}
-use Rattle.std.proofs.lemmas.Int.{ints, by_lt_z}
-use Rattle.cts_base.specs.declared.fraction.Fraction.{Fraction}
-use Rattle.cts_model.specs.declared.constraint.Constraint.{Constraint}
-use Rattle.cts_model.specs.timing.Constraints.{AreSmallConstraints}
-use Rattle.cts_model.specs.timing.Cycles.{IsCycle}
-use Rattle.critical_cycle.specs.declared.measure.Measure.{Measure}
+use Rattle.critical_cycle.proofs.Vocabulary.{ℕ, ◌≡◌, ◌<◌, ◌≤◌, ◌+◌, ◌*◌, ℤ, pos, neg_ℤ, ◌*ℤ◌, ◌≤ℤ◌, ◌<ℤ◌, List, Option, Some, None, refl, sym, subst, arith, false, MatchOption, nat_abs, mul-le-mul_left, ints, by_lt_z, Fraction, Constraint, AreSmallConstraints, IsCycle, Measure, Gains, AreWithin, constraints_at, CanTry, IsTrialAt, SatisfiesRatio, most_weight, IsRaise, ClosesWithNext, IsGreatestShown, IsRaisedBy, IsNeverAtAll, IsSettled, IsShown, raises_left, steps_below, SatisfiesGains, total_gain, up, down}
 use Rattle.critical_cycle.specs.declared.raise.Raise.{Raise}
 use Rattle.critical_cycle.specs.declared.raise.Raise.TheVariants as raise
 use Rattle.critical_cycle.specs.declared.shown.Shown.{Shown}
 use Rattle.critical_cycle.specs.declared.shown.Shown.TheVariants.{First, Value, Never}
-use Rattle.relaxation.specs.declared.gains.Gains.{Gains}
-use Rattle.critical_cycle.specs.CyclePlaces.{AreWithin, constraints_at}
-use Rattle.critical_cycle.specs.Measures.{CanTry, IsTrialAt, SatisfiesRatio}
-use Rattle.critical_cycle.specs.RatioSizes.{most_weight}
-use Rattle.critical_cycle.specs.Raises.{IsRaise}
-use Rattle.critical_cycle.specs.Searches.{ClosesWithNext}
-use Rattle.critical_cycle.specs.ShownRatios.{IsGreatestShown, IsRaisedBy, IsNeverAtAll, IsSettled, IsShown, raises_left, steps_below}
-use Rattle.relaxation.specs.Gains.{SatisfiesGains, total_gain}
 use Rattle.critical_cycle.proofs.MeasureLemmas.{satisfies_ratio, total_gain-sums}
 use Rattle.critical_cycle.proofs.RaiseLemmas.{size_is}
 use Rattle.critical_cycle.proofs.Steps.{steps_below-less}
-use borrow.Author.Differences.{up, down}
 
 -- a trial that settles, settles the greatest ratio shown
 pub settled_at : (measure : Measure) (constraints : List Constraint) (first : Fraction)

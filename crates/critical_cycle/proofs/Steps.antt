@@ -1,13 +1,6 @@
 -- How many fractions of small denominators are left below the greatest: fewer after each raise.
-use Rattle.std.proofs.Common.{ℕ, suc, ◌≡◌, ◌<◌, ◌≤◌, ◌+◌, ◌*◌, ◌/◌, ℤ, pos, negsuc, ◌-ℤ◌, ◌*ℤ◌, ◌≤ℤ◌, ◌<ℤ◌, ap, arith, ⊎_elim}
-use Rattle.std.specs.Prelude.{nat_abs}
-use Rattle.std.proofs.Math.Nat.{mul-le-mul_left, div-mul-le_self}
-use Rattle.std.proofs.lemmas.Bool.{cases_lt}
-use Rattle.std.proofs.lemmas.Int.{ints}
-use Rattle.std.proofs.lemmas.Nat.{le-div, mul-le}
+use Rattle.critical_cycle.proofs.Vocabulary.{ℕ, suc, ◌≡◌, ◌<◌, ◌≤◌, ◌+◌, ◌*◌, ◌/◌, ℤ, pos, negsuc, ◌-ℤ◌, ◌*ℤ◌, ◌≤ℤ◌, ◌<ℤ◌, ap, arith, ⊎_elim, nat_abs, mul-le-mul_left, div-mul-le_self, cases_lt, ints, le-div, mul-le, steps_below, up, down}
 use Rattle.cts_model.proofs.ScaleLemmas.{size_same}
-use Rattle.critical_cycle.specs.ShownRatios.{steps_below}
-use borrow.Author.Differences.{up, down}
 
 -- a lower fraction has fewer steps where the steps are as many as both denominators allow
 fewer_steps : (steps den size x y : ℕ) → 1 ≤ size → den * size ≤ steps → 1 ≤ den

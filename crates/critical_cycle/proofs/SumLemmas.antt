@@ -1,15 +1,5 @@
 -- Sums of weights and counts: one more constraint, and how large they are.
-use Rattle.std.proofs.Common.{ℕ, ◌≡◌, ◌<◌, ◌≤◌, ◌+◌, ◌*◌, ◌^◌, ℤ, pos, ◌+ℤ◌, neg_ℤ, ◌≤ℤ◌, List, [], ◌∷◌, ◌++◌, length, get_or, take, sym, ◌∙◌, ap, arith, All, Bool, true, false, if◌then◌else◌}
-use Rattle.std.proofs.lemmas.Int.{ints}
-use Rattle.std.proofs.lemmas.List.{take_more, length-take}
-use Rattle.std.proofs.lemmas.List.Elements.{All-head, All-tail, All-take, filter_map-append}
-use Rattle.std.proofs.lemmas.List.Sums.{sum_by-append, sum_by-cons}
-use Rattle.std.specs.Prelude.{slice_get}
-use Rattle.cts_model.specs.declared.constraint.Constraint.{Constraint}
-use Rattle.cts_model.specs.timing.Constraints.{count_of}
-use Rattle.cts_model.specs.timing.Cycles.{total_weight, total_count}
-use Rattle.cts_model.specs.placement.Points.{IsBelow}
-use Rattle.critical_cycle.specs.CyclePlaces.{AreWithin, constraints_at}
+use Rattle.critical_cycle.proofs.Vocabulary.{ℕ, ◌≡◌, ◌<◌, ◌≤◌, ◌+◌, ◌*◌, ◌^◌, ℤ, pos, ◌+ℤ◌, neg_ℤ, ◌≤ℤ◌, List, [], ◌∷◌, ◌++◌, length, get_or, take, sym, ◌∙◌, ap, arith, All, Bool, true, false, if◌then◌else◌, ints, take_more, length-take, All-head, All-tail, All-take, filter_map-append, sum_by-append, sum_by-cons, slice_get, Constraint, count_of, total_weight, total_count, IsBelow, AreWithin, constraints_at}
 use Rattle.critical_cycle.proofs.PlaceLemmas.{constraints_at-cons, length-constraints_at, All-constraints_at}
 use Rattle.critical_cycle.proofs.Turns.{total_weight-append}
 
@@ -26,8 +16,7 @@ constraints_at-more constraints cycle i d more within =
 
 -- its weight is added
 pub weight_more : (constraints : List Constraint) (cycle : List ℕ) (i : ℕ) (d : Constraint)
-    (sum more : ℤ)
-    → i < length cycle → AreWithin constraints cycle
+    (sum more : ℤ) → i < length cycle → AreWithin constraints cycle
     → sum ≡ total_weight (constraints_at constraints (take i cycle))
     → more ≡ sum +ℤ (get_or constraints (get_or cycle i 0) d).weight
     → more ≡ total_weight (constraints_at constraints (take (i + 1) cycle))
@@ -43,8 +32,7 @@ weight_more constraints cycle i d sum more inside within is next =
 
 -- and its count
 pub count_more : (constraints : List Constraint) (cycle : List ℕ) (i : ℕ) (d : Constraint)
-    (sum more : ℤ)
-    → i < length cycle → AreWithin constraints cycle
+    (sum more : ℤ) → i < length cycle → AreWithin constraints cycle
     → sum ≡ pos (total_count (constraints_at constraints (take i cycle)))
     → more ≡ sum +ℤ pos (count_of (get_or constraints (get_or cycle i 0) d))
     → more ≡ pos (total_count (constraints_at constraints (take (i + 1) cycle)))

@@ -1,15 +1,5 @@
 -- Cycles that are rotated: their first constraints after the others.
-use Rattle.std.proofs.Common.{ℕ, ◌≡◌, ◌≢◌, ◌<◌, ◌≤◌, ◌+◌, ◌-◌, ℤ, pos, ◌+ℤ◌, List, [], ◌∷◌, ◌++◌, length, get_or, take, drop, refl, sym, ◌∙◌, ap, subst, arith, All, AllPairs, ⊎_elim}
-use Rattle.std.proofs.lemmas.Bool.{cases_lt}
-use Rattle.std.proofs.lemmas.Int.{ints}
-use Rattle.std.proofs.lemmas.List.{length-append, drop_more, take-append-drop, get_or_append_left, get_or-append-add, get_or-append_right}
-use Rattle.std.proofs.lemmas.List.Elements.{All-append, All-take, All-drop, All-from_get_or, filter_map-append}
-use Rattle.std.proofs.lemmas.List.Sums.{sum_by-append}
-use Rattle.std.specs.Prelude.{slice_get, slice_index}
-use Rattle.cts_model.specs.declared.constraint.Constraint.{Constraint}
-use Rattle.cts_model.specs.timing.Constraints.{count_of}
-use Rattle.cts_model.specs.timing.Cycles.{Leads, IsCycle, total_weight, total_count}
-use Rattle.critical_cycle.specs.CyclePlaces.{AreWithin, IsFromLowest, constraints_at, tail_at}
+use Rattle.critical_cycle.proofs.Vocabulary.{ℕ, ◌≡◌, ◌≢◌, ◌<◌, ◌≤◌, ◌+◌, ◌-◌, ℤ, pos, ◌+ℤ◌, List, [], ◌∷◌, ◌++◌, length, get_or, take, drop, refl, sym, ◌∙◌, ap, subst, arith, All, AllPairs, ⊎_elim, cases_lt, ints, length-append, drop_more, take-append-drop, get_or_append_left, get_or-append-add, get_or-append_right, All-append, All-take, All-drop, All-from_get_or, filter_map-append, sum_by-append, slice_get, slice_index, Constraint, count_of, Leads, IsCycle, total_weight, total_count, AreWithin, IsFromLowest, constraints_at, tail_at}
 use Rattle.critical_cycle.proofs.PlaceLemmas.{from_lowest}
 
 -- the lowest tail comes first where the cycle is rotated to it

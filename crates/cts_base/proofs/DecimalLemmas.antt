@@ -1,15 +1,5 @@
 -- Digits: what tests on them say, and the numbers that they write.
-use Rattle.std.proofs.Common.{◌≡◌, ℕ, ◌+◌, ◌-◌, ◌≤◌, Bool, true, false, ◌↔◌, ◌==◌, cond, min, List, [], ◌∷◌, length, drop, slice_index, refl, sym, ◌∙◌, arith}
-use Rattle.std.proofs.lemmas.Bool.{and_from, and_parts}
-use Rattle.std.proofs.lemmas.Bool.Decides.{nat_tests}
-use Rattle.std.proofs.lemmas.List.{length-take, length-drop}
-use Rattle.std.proofs.lemmas.Str.{digit_value_digit}
-use Rattle.std.proofs.lemmas.Str.Parse.{digit_from_value}
-use Rattle.std.specs.Char.{is_ascii_digit}
-use Rattle.std.specs.Int.{IsInRange}
-use Rattle.std.specs.List.{list_all, position_or_len}
-use Rattle.std.specs.Str.Parse.{AllDigits, starts_with_minus, without_leading_sign}
-use Rattle.cts_base.specs.Decimals.{is_point, is_exponent_mark, coefficient, whole_digits, fraction_digits}
+use Rattle.cts_base.proofs.Vocabulary.{◌≡◌, ℕ, ◌+◌, ◌-◌, ◌≤◌, Bool, true, false, ◌↔◌, ◌==◌, cond, min, List, [], ◌∷◌, length, drop, slice_index, refl, sym, ◌∙◌, arith, and_from, and_parts, nat_tests, length-take, length-drop, digit_value_digit, digit_from_value, is_ascii_digit, IsInRange, list_all, position_or_len, AllDigits, starts_with_minus, without_leading_sign, is_point, is_exponent_mark, coefficient, whole_digits, fraction_digits}
 
 in_range : (c : ℕ) → is_ascii_digit c ≡ true → IsInRange 48 57 c
 in_range c is = grind (arith, nat_tests)

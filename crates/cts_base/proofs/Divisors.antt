@@ -1,7 +1,5 @@
 -- Common divisors, and what is left of two numbers by their greatest one.
-use Rattle.std.proofs.Common.{◌≡◌, ℕ, zero, suc, ◌*◌, ◌/◌, ◌<◌, sym, ap, ◌∙◌, subst, arith}
-use Rattle.std.proofs.Math.Nat.{one-dvd, dvd-mul_right, mul-div_cancel', mul-div_cancel_left}
-use Rattle.std.specs.Int.{◌∣◌, IsGcd}
+use Rattle.cts_base.proofs.Vocabulary.{◌≡◌, ℕ, zero, suc, ◌*◌, ◌/◌, ◌<◌, sym, ap, ◌∙◌, subst, arith, one-dvd, dvd-mul_right, mul-div_cancel', mul-div_cancel_left, ◌∣◌, IsGcd}
 
 -- a divisor of a number above 0 is above 0
 pub some_divisor : (divisor other number : ℕ) → divisor * other ≡ number → 0 < number → 0 < divisor

@@ -1,14 +1,6 @@
 -- What is read of a fraction's text, and why one is refused: a text has one fraction or one fault.
-use Rattle.std.proofs.Common.{◌≡◌, ◌<◌, ◌^◌, ◌↔◌, ℕ, ℤ, pos, negsuc, ◌*ℤ◌, ◌≤ℤ◌, nat_abs, inl, inr, List, Result, Ok, Err, IfOk, MatchResult, of_z, to_z, refl, sym, ap, ◌∙◌, subst, arith}
-use mir.Syntax.{w128}
+use Rattle.cts_base.proofs.Vocabulary.{◌≡◌, ◌<◌, ◌^◌, ◌↔◌, ℕ, ℤ, pos, negsuc, ◌*ℤ◌, ◌≤ℤ◌, nat_abs, inl, inr, List, Result, Ok, Err, IfOk, MatchResult, of_z, to_z, refl, sym, ap, ◌∙◌, subst, arith, w128, ints, IsErrOf, HasSizeBelow, IsLowest, fraction_text, SpellsQuotient, kept_size, HaveSmallSizes, IsLargeQuotient, IsNoFraction, RefusesFraction, Fraction, NumberFault, NotNumber, TooFine, TooLarge}
 use Rattle.std.proofs.Props.{props}
-use Rattle.std.proofs.lemmas.Int.{ints}
-use Rattle.std.specs.Result.{IsErrOf}
-use Rattle.cts_base.specs.Fractions.{HasSizeBelow, IsLowest, fraction_text}
-use Rattle.cts_base.specs.NumberTexts.{SpellsQuotient, kept_size, HaveSmallSizes, IsLargeQuotient, IsNoFraction, RefusesFraction}
-use Rattle.cts_base.specs.declared.fraction.Fraction.{Fraction}
-use Rattle.cts_base.specs.declared.number.NumberFault.{NumberFault}
-use Rattle.cts_base.specs.declared.number.NumberFault.TheVariants.{NotNumber, TooFine, TooLarge}
 use Rattle.cts_base.proofs.GreatestDivisors.{same_factor}
 use Rattle.cts_base.proofs.OneNumberText.{one_fraction_text}
 use Rattle.cts_base.proofs.OneSpelling.{one_quotient, quotient_text_spelled, fraction_spelled}
@@ -156,8 +148,7 @@ judged_spelled text r denoted fraction small small' same =
 -- a text spells one fraction
 pub one_spelled_fraction : (fraction other : Fraction) → HaveSmallSizes fraction.num fraction.den
     → HaveSmallSizes other.num other.den
-    → fraction_text fraction.num fraction.den ≡ fraction_text other.num other.den
-    → fraction ≡ other
+    → fraction_text fraction.num fraction.den ≡ fraction_text other.num other.den → fraction ≡ other
 one_spelled_fraction fraction other small small' same =
     let both = one_fraction_text fraction.num fraction.den other.num other.den
     (few_digits fraction.num small.0) (few_digits fraction.den small.1)

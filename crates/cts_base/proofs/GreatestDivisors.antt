@@ -1,13 +1,5 @@
 -- The greatest number up to a bound that divides two numbers, and what is left of them by it.
-use Rattle.std.proofs.Common.{◌≡◌, ℕ, zero, suc, ◌%◌, ◌*◌, ◌/◌, ◌==◌, ◌&&◌, ◌<◌, ◌≤◌, ℤ, pos, negsuc, neg_ℤ, ◌*ℤ◌, ◌≤ℤ◌, nat_abs, Bool, true, false, cond, refl, sym, ap, ap₂, ◌∙◌, subst, true≢false, arith}
-use Rattle.std.proofs.Math.Nat.{mod-lt, mul-div_cancel}
-use Rattle.std.proofs.lemmas.Bool.Decides.{Decides-eqb}
-use Rattle.std.proofs.lemmas.Int.{ints}
-use Rattle.std.proofs.lemmas.Nat.Gcd.{IsGcd-from_zero, IsGcd-from_mod, dvd_of_mod-eq-zero, mod-eq-zero_of_dvd, le_of_dvd}
-use Rattle.std.specs.Int.{◌∣◌, IsGcd}
-use Rattle.std.specs.Int.RustNames.{int_div}
-use Rattle.cts_base.specs.declared.fraction.Fraction.{Fraction}
-use Rattle.cts_base.specs.Fractions.{divisor_up_to, fraction_text, quotient_text}
+use Rattle.cts_base.proofs.Vocabulary.{◌≡◌, ℕ, zero, suc, ◌%◌, ◌*◌, ◌/◌, ◌==◌, ◌&&◌, ◌<◌, ◌≤◌, ℤ, pos, negsuc, neg_ℤ, ◌*ℤ◌, ◌≤ℤ◌, nat_abs, Bool, true, false, cond, refl, sym, ap, ap₂, ◌∙◌, subst, true≢false, arith, mod-lt, mul-div_cancel, Decides-eqb, ints, IsGcd-from_zero, IsGcd-from_mod, dvd_of_mod-eq-zero, mod-eq-zero_of_dvd, le_of_dvd, ◌∣◌, IsGcd, int_div, Fraction, divisor_up_to, fraction_text, quotient_text}
 use Rattle.cts_base.proofs.Divisors.{some_gcd}
 use Rattle.cts_base.proofs.OneFraction.{one_fraction, other_sign}
 use Rattle.cts_base.proofs.Quotients.{int_div-le, lowest_quotients, negative, same_value}
@@ -113,8 +105,7 @@ crosswise num den num' den' num'' (negsuc d) some some' some'' same same' =
 
 -- a fraction is what is left of any two numbers of its value by their greatest common divisor
 lowest_parts : (num den : ℤ) (fraction : Fraction) → pos 1 ≤ℤ den
-    → fraction.num *ℤ den ≡ num *ℤ fraction.den
-    → (divisor : ℤ) × (pos 1 ≤ℤ divisor)
+    → fraction.num *ℤ den ≡ num *ℤ fraction.den → (divisor : ℤ) × (pos 1 ≤ℤ divisor)
     × (divisor ≡ pos (divisor_up_to (nat_abs den) (nat_abs num) (nat_abs den)))
     × (fraction.num ≡ int_div num divisor) × (fraction.den ≡ int_div den divisor)
 lowest_parts num (negsuc den) fraction some same = absurd (omega (arith, ints))

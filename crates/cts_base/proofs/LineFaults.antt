@@ -1,14 +1,6 @@
 -- A walk over the lines of a text, to the first that is faulty.
-use Rattle.std.proofs.Common.{◌≡◌, ◌∙◌, ◌+◌, ◌++◌, ◌∷◌, [], ℕ, List, length, Option, Some, None, refl, sym, subst, ap, ◌<◌, ◌≤◌, ◌^◌, arith, append-nil, append_assoc}
+use Rattle.cts_base.proofs.Vocabulary.{◌≡◌, ◌∙◌, ◌+◌, ◌++◌, ◌∷◌, [], ℕ, List, length, Option, Some, None, refl, sym, subst, ap, ◌<◌, ◌≤◌, ◌^◌, arith, append-nil, append_assoc, enumerate_from, slice_split, strip_carriage_return, nat_tests, length-append, length-map, length_push, length-slice_split, count_by-le-length, lines_of, numbered_lines, is_line_feed, without_empty_last, first_fault, first_fault_after}
 use Rattle.std.specs.Option.{option_or}
-use Rattle.std.specs.List.{enumerate_from, slice_split}
-use Rattle.std.specs.Str.Lines.{strip_carriage_return}
-use Rattle.std.proofs.lemmas.Bool.Decides.{nat_tests}
-use Rattle.std.proofs.lemmas.List.{length-append, length-map, length_push}
-use Rattle.std.proofs.lemmas.List.Splits.{length-slice_split}
-use Rattle.std.proofs.lemmas.List.Sums.{count_by-le-length}
-use Rattle.cts_base.specs.Lines.{lines_of, numbered_lines, is_line_feed, without_empty_last}
-use Rattle.cts_base.specs.LineFormats.{first_fault, first_fault_after}
 
 -- no line is left out but an empty last one
 length-without_empty_last : (parts : List (List ℕ))

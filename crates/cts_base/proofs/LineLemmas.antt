@@ -1,10 +1,5 @@
 -- The first line of a text, and the lines of what follows its end.
-use Rattle.std.proofs.Common.{ℕ, ◌≡◌, ◌<◌, Some, None, List, [], ◌∷◌, length, take, drop, refl, arith}
-use Rattle.std.proofs.lemmas.Bool.Decides.{nat_tests}
-use Rattle.std.specs.List.{slice_split, position}
-use Rattle.std.specs.Str.Lines.{strip_carriage_return}
-use Rattle.std.proofs.lemmas.List.Splits.{length-slice_split}
-use Rattle.cts_base.specs.Lines.{is_line_feed, without_empty_last, lines_of}
+use Rattle.cts_base.proofs.Vocabulary.{ℕ, ◌≡◌, ◌<◌, Some, None, List, [], ◌∷◌, length, take, drop, refl, arith, nat_tests, slice_split, position, strip_carriage_return, length-slice_split, is_line_feed, without_empty_last, lines_of}
 use Rattle.cts_base.proofs.Places.{slice_split-cut, slice_split-whole}
 
 -- only the last part can be left out

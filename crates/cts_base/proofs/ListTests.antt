@@ -1,6 +1,5 @@
 -- Tests of items that a function made.
-use Rattle.std.proofs.Common.{◌≡◌, Bool, ◌||◌, List, [], ◌∷◌, map, refl, ap}
-use Rattle.std.specs.List.{list_any}
+use Rattle.cts_base.proofs.Vocabulary.{◌≡◌, Bool, ◌||◌, List, [], ◌∷◌, map, refl, ap, list_any}
 
 -- an item passes where it did before
 pub list_any-map : {X Y : Type 0} (f : X → Y) (test : Y → Bool) (xs : List X)

@@ -1,18 +1,7 @@
 -- The size of a decimal number in millionths: what is kept of its digits, and how far that is
 -- raised.
-use Rattle.std.proofs.Common.{◌≡◌, ℕ, suc, ◌+◌, ◌*◌, ◌-◌, ◌^◌, ◌<◌, ◌≤◌, min, ◌⊎◌, inl, inr, lit<, Bool, true, false, cond, ◌&&◌, List, [], ◌∷◌, length, take, drop, refl, sym, ap, subst, ◌∙◌, arith}
-use Rattle.std.proofs.Math.Nat.{one-le-pow, pow-le-pow_right, mul-le-mul_left, mul-le-mul_right, mul_assoc, mul_comm, pow-suc, add-mul, zero-mul, eq_of_mul-eq-mul_right}
-use Rattle.std.proofs.lemmas.Bool.{cases_lt}
-use Rattle.std.proofs.lemmas.Bool.Decides.{nat_tests}
-use Rattle.std.proofs.lemmas.List.{take-append-drop}
+use Rattle.cts_base.proofs.Vocabulary.{◌≡◌, ℕ, suc, ◌+◌, ◌*◌, ◌-◌, ◌^◌, ◌<◌, ◌≤◌, min, ◌⊎◌, inl, inr, lit<, Bool, true, false, cond, ◌&&◌, List, [], ◌∷◌, length, take, drop, refl, sym, ap, subst, ◌∙◌, arith, one-le-pow, pow-le-pow_right, mul-le-mul_left, mul-le-mul_right, mul_assoc, mul_comm, pow-suc, add-mul, zero-mul, eq_of_mul-eq-mul_right, cases_lt, nat_tests, take-append-drop, digit_value_digit, digit_from_value, digit_value, list_all, AllDigits, digits_value, digits_value_after, is_zero, and_parts}
 use Rattle.std.proofs.lemmas.Nat.{pow-add}
-use Rattle.std.proofs.lemmas.Str.{digit_value_digit}
-use Rattle.std.proofs.lemmas.Str.Parse.{digit_from_value}
-use Rattle.std.specs.Char.{digit_value}
-use Rattle.std.specs.List.{list_all}
-use Rattle.std.specs.Str.Parse.{AllDigits, digits_value, digits_value_after}
-use Rattle.cts_base.specs.Decimals.{is_zero}
-use Rattle.std.proofs.lemmas.Bool.{and_parts}
 use Rattle.cts_base.proofs.ScaleLemmas.{digits_value_after-append, raised_enough}
 
 -- ---- digits by their places

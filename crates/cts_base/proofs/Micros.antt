@@ -1,13 +1,6 @@
 -- The size of the number of millionths that a text writes.
-use Rattle.std.proofs.Common.{◌≡◌, ◌≤◌, ◌^◌, ℕ, Bool, true, false, not, cond, List, ℤ, nat_abs, Result, Ok, Err, refl, sym, ap, ◌∙◌, arith}
-use Rattle.std.proofs.lemmas.Bool.{ltb-false}
-use Rattle.std.proofs.lemmas.Int.{ints}
+use Rattle.cts_base.proofs.Vocabulary.{◌≡◌, ◌≤◌, ◌^◌, ℕ, Bool, true, false, not, cond, List, ℤ, nat_abs, Result, Ok, Err, refl, sym, ap, ◌∙◌, arith, ltb-false, ints, result_map_both, starts_with_minus, is_decimal, is_fine_enough, micros_of, micros_size, signed, size_of, NumberFault, NotNumber, TooFine, TooLarge}
 use Rattle.std.specs.Prelude.{nat_lt}
-use Rattle.std.specs.Result.{result_map_both}
-use Rattle.std.specs.Str.Parse.{starts_with_minus}
-use Rattle.cts_base.specs.Decimals.{is_decimal, is_fine_enough, micros_of, micros_size, signed, size_of}
-use Rattle.cts_base.specs.declared.number.NumberFault.{NumberFault}
-use Rattle.cts_base.specs.declared.number.NumberFault.TheVariants.{NotNumber, TooFine, TooLarge}
 
 -- a sign doesn't change the size
 size-signed : (minus : Bool) (size : ℕ) → nat_abs (signed minus size) ≡ size

@@ -1,11 +1,5 @@
 -- A fraction in lowest terms is determined by its value: Euclid's steps on both fractions at once.
-use Rattle.std.proofs.Common.{◌≡◌, ℕ, zero, suc, ◌+◌, ◌-◌, ◌*◌, ◌<◌, ◌≤◌, ℤ, pos, negsuc, ◌*ℤ◌, inl, inr, refl, sym, ap, ◌∙◌, subst, arith}
-use Rattle.std.proofs.Math.Nat.{one-dvd, dvd-sub_iff_left}
-use Rattle.std.proofs.lemmas.Bool.{cases_lt}
-use Rattle.std.proofs.lemmas.Int.{ints}
-use Rattle.std.proofs.lemmas.Nat.Gcd.{IsGcd-swap, IsGcd-from_zero, same_from_IsGcd}
-use Rattle.std.specs.Int.{IsGcd}
-use Rattle.cts_base.specs.Fractions.{IsLowest}
+use Rattle.cts_base.proofs.Vocabulary.{◌≡◌, ℕ, zero, suc, ◌+◌, ◌-◌, ◌*◌, ◌<◌, ◌≤◌, ℤ, pos, negsuc, ◌*ℤ◌, inl, inr, refl, sym, ap, ◌∙◌, subst, arith, one-dvd, dvd-sub_iff_left, cases_lt, ints, IsGcd-swap, IsGcd-from_zero, same_from_IsGcd, IsGcd, IsLowest}
 
 -- a step of Euclid's algorithm leaves coprime numbers coprime
 gcd_less : (a b : ℕ) → b ≤ a → IsGcd a b 1 → IsGcd (a - b) b 1

@@ -1,14 +1,7 @@
 -- Numbers, fractions and quotients are determined by how they are spelled.
-use Rattle.std.proofs.Common.{◌≡◌, ◌≢◌, ◌<◌, ◌+◌, ◌/◌, ◌%◌, ◌^◌, ◌==◌, ℕ, suc, zero, ℤ, pos, negsuc, ◌*ℤ◌, ◌≤ℤ◌, nat_abs, Bool, true, false, cond, nat_lt, List, [], ◌∷◌, ◌++◌, drop, get_or, length, decimal, refl, sym, ap, ap₂, ◌∙◌, arith}
-use Rattle.std.specs.Fmt.{digits, digits_onto, digit_glyph, signed_decimal}
-use Rattle.std.specs.Int.RustNames.{int_div}
-use Rattle.std.specs.List.{AllByRecursion}
-use Rattle.std.specs.Ordering.{int_eq}
-use Rattle.std.specs.Str.Parse.{digits_value}
-use Rattle.std.proofs.lemmas.Bool.Decides.{Decides-int_eq}
-use Rattle.std.proofs.lemmas.Fmt.{decimal_is_IsNumeral_wide}
-use Rattle.std.proofs.lemmas.Int.{ints}
-use Rattle.cts_base.specs.Fractions.{divisor_up_to, fraction_text, quotient_text}
+use Rattle.cts_base.proofs.Vocabulary.{◌≡◌, ◌≢◌, ◌<◌, ◌+◌, ◌/◌, ◌%◌, ◌^◌, ◌==◌, ℕ, suc, zero, ℤ, pos, negsuc, ◌*ℤ◌, ◌≤ℤ◌, nat_abs, Bool, true, false, cond, List, [], ◌∷◌, ◌++◌, drop, get_or, length, decimal, refl, sym, ap, ap₂, ◌∙◌, arith, digits_onto, digit_glyph, signed_decimal, int_div, AllByRecursion, int_eq, digits_value, Decides-int_eq, decimal_is_IsNumeral_wide, ints, divisor_up_to, fraction_text, quotient_text}
+use Rattle.std.proofs.Common.{nat_lt}
+use Rattle.std.specs.Fmt.{digits}
 use Rattle.cts_base.proofs.GreatestDivisors.{same_factor, up_to_second}
 use Rattle.cts_base.proofs.Quotients.{int_div-le, lowest_quotients, same_value}
 

@@ -1,18 +1,6 @@
 -- A text spells one whole number and one quotient; and the digits that std writes of a number are
 -- its spelling.
-use Rattle.std.proofs.Common.{◌≡◌, ◌<◌, ◌≤◌, ◌+◌, ◌*◌, ◌/◌, ◌%◌, ◌^◌, ℕ, suc, zero, ℤ, pos, negsuc, ◌≤ℤ◌, nat_abs, Bool, true, false, cond, IsTrue, inl, inr, List, [], ◌∷◌, ◌++◌, get_or, length, decimal, refl, sym, ap, ap₂, ◌∙◌, subst, arith, append_assoc, append-nil}
-use Rattle.std.specs.Char.{digit_value}
-use Rattle.std.specs.Fmt.{signed_decimal}
-use Rattle.std.specs.Ordering.{int_eq}
-use Rattle.std.specs.Str.Parse.{AllDigits, digits_value, digits_value_after, starts_with_minus}
-use Rattle.std.proofs.lemmas.Bool.Decides.{Decides-int_eq, nat_tests}
-use Rattle.std.proofs.lemmas.Fmt.{decimal_is_IsNumeral_wide, decimal_by_steps_wide, decimal_digit, decimal_step_wide}
-use Rattle.std.proofs.lemmas.Int.{ints}
-use Rattle.std.proofs.lemmas.List.{length-append, get_or_append_left}
-use Rattle.std.proofs.lemmas.Str.{digit_value_digit}
-use Rattle.std.proofs.lemmas.Str.Parse.{digit_from_value}
-use Rattle.cts_base.specs.Fractions.{fraction_text}
-use Rattle.cts_base.specs.NumberTexts.{IsPlainNumeral, SpellsWhole, SpellsQuotient}
+use Rattle.cts_base.proofs.Vocabulary.{◌≡◌, ◌<◌, ◌≤◌, ◌+◌, ◌*◌, ◌/◌, ◌%◌, ◌^◌, ℕ, suc, zero, ℤ, pos, negsuc, ◌≤ℤ◌, nat_abs, Bool, true, false, cond, IsTrue, inl, inr, List, [], ◌∷◌, ◌++◌, get_or, length, decimal, refl, sym, ap, ap₂, ◌∙◌, subst, arith, append_assoc, append-nil, digit_value, signed_decimal, int_eq, AllDigits, digits_value, digits_value_after, starts_with_minus, Decides-int_eq, nat_tests, decimal_is_IsNumeral_wide, decimal_by_steps_wide, decimal_digit, decimal_step_wide, ints, length-append, get_or_append_left, digit_value_digit, digit_from_value, fraction_text, IsPlainNumeral, SpellsWhole, SpellsQuotient}
 use Rattle.cts_base.proofs.OneNumberText.{HasNoSlash, one_split, slash_differs}
 
 -- ---- one number

@@ -1,10 +1,5 @@
 -- What the first place that passes a test says of a list and its parts.
-use Rattle.std.proofs.Common.{ℕ, suc, ◌≡◌, ◌<◌, ◌+◌, Bool, not, Some, None, List, [], ◌∷◌, length, take, drop, refl, sym, arith, get_or, drop-cons}
-use Rattle.std.proofs.lemmas.Bool.Decides.{nat_tests}
-use Rattle.std.specs.List.{slice_split, position_or_len, position}
-use Rattle.std.proofs.lemmas.List.{drop-drop}
-use Rattle.std.proofs.lemmas.List.Splits.{slice_split_first, slice_split_none}
-use Rattle.std.proofs.lemmas.List.Sums.{fails_before_first, prefix_len-le-length}
+use Rattle.cts_base.proofs.Vocabulary.{ℕ, suc, ◌≡◌, ◌<◌, ◌+◌, Bool, not, Some, None, List, [], ◌∷◌, length, take, drop, refl, sym, arith, get_or, drop-cons, nat_tests, slice_split, position_or_len, position, drop-drop, slice_split_first, slice_split_none, fails_before_first, prefix_len-le-length}
 
 -- the first place that passes, where there is one
 pub place_of_Some : (p : ℕ → Bool) (xs : List ℕ) (i : ℕ) → position p xs ≡ Some i

@@ -1,10 +1,5 @@
 -- The test whether digits are plain.
-use Rattle.std.proofs.Common.{◌≡◌, ◌<◌, ◌==◌, ◌&&◌, ◌||◌, ℕ, Bool, true, false, not, List, length, slice_index, refl, arith}
-use Rattle.std.proofs.lemmas.Bool.Decides.{nat_tests}
-use Rattle.std.specs.Char.{is_ascii_digit}
-use Rattle.std.specs.List.{list_all}
-use Rattle.cts_base.specs.NumberTexts.{IsPlainNumeral, is_plain_numeral}
-use Rattle.std.proofs.lemmas.Bool.{and_from, and_parts}
+use Rattle.cts_base.proofs.Vocabulary.{◌≡◌, ◌<◌, ◌==◌, ◌&&◌, ◌||◌, ℕ, Bool, true, false, not, List, length, slice_index, refl, arith, nat_tests, is_ascii_digit, list_all, IsPlainNumeral, is_plain_numeral, and_from, and_parts}
 use Rattle.cts_base.proofs.DecimalLemmas.{digits_tested}
 
 module _ (digits : List ℕ) where

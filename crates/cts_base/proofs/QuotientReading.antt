@@ -1,13 +1,6 @@
 -- What is read of a quotient's text, at its first slash or without one.
-use Rattle.std.proofs.Common.{◌≡◌, ◌<◌, ◌+◌, ℕ, suc, zero, ℤ, pos, negsuc, ◌≤ℤ◌, true, false, Option, Some, None, IfSome, IsNone, inl, inr, List, [], ◌∷◌, ◌++◌, take, drop, get_or, length, refl, sym, ap, ◌∙◌, subst, arith, drop-cons}
-use Rattle.std.specs.List.{position}
-use Rattle.std.proofs.lemmas.Bool.Decides.{nat_tests}
-use Rattle.std.proofs.lemmas.Int.{ints}
+use Rattle.cts_base.proofs.Vocabulary.{◌≡◌, ◌<◌, ◌+◌, ℕ, suc, zero, ℤ, pos, negsuc, ◌≤ℤ◌, true, false, Option, Some, None, IfSome, IsNone, inl, inr, List, [], ◌∷◌, ◌++◌, take, drop, get_or, length, refl, sym, ap, ◌∙◌, subst, arith, drop-cons, position, nat_tests, ints, fails_before_first, take-length, take-append-drop, is_slash, SpellsWhole, SpellsQuotient, kept_size}
 use Rattle.std.proofs.lemmas.List.Quantifiers.{position-Some}
-use Rattle.std.proofs.lemmas.List.Sums.{fails_before_first}
-use Rattle.std.proofs.Math.Seq.{take-length}
-use Rattle.std.proofs.lemmas.List.{take-append-drop}
-use Rattle.cts_base.specs.NumberTexts.{is_slash, SpellsWhole, SpellsQuotient, kept_size}
 use Rattle.cts_base.specs.declared.number.quotient.Quotient.{Quotient}
 use Rattle.cts_base.proofs.OneNumberText.{HasNoSlash, one_split, slash_differs}
 use Rattle.cts_base.proofs.OneSpelling.{whole_no_slash}

@@ -1,11 +1,5 @@
 -- Signed numbers divided by their greatest common divisor.
-use Rattle.std.proofs.Common.{◌≡◌, ℕ, zero, suc, ◌*◌, ◌/◌, ◌<◌, ◌≤◌, ℤ, pos, negsuc, neg_ℤ, ◌*ℤ◌, ◌≤ℤ◌, nat_abs, to_z, of_z, FitsSigned, refl, sym, ap, ◌∙◌, arith}
-use Rattle.std.proofs.Math.Nat.{mul-div_cancel', div-le_self}
-use mir.Syntax.{w128}
-use Rattle.std.proofs.lemmas.Int.{ints, quot_fits, quot_is}
-use Rattle.std.specs.Int.{IsGcd}
-use Rattle.std.specs.Int.RustNames.{int_div}
-use Rattle.cts_base.specs.Fractions.{IsLowest}
+use Rattle.cts_base.proofs.Vocabulary.{◌≡◌, ℕ, zero, suc, ◌*◌, ◌/◌, ◌<◌, ◌≤◌, ℤ, pos, negsuc, neg_ℤ, ◌*ℤ◌, ◌≤ℤ◌, nat_abs, to_z, of_z, FitsSigned, refl, sym, ap, ◌∙◌, arith, mul-div_cancel', div-le_self, w128, ints, quot_fits, quot_is, IsGcd, int_div, IsLowest}
 use Rattle.cts_base.proofs.Divisors.{coprime, some_divisor}
 
 -- what the code divides is divided over the whole numbers

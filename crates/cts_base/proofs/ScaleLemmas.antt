@@ -1,16 +1,7 @@
 -- The numbers that digits write, kept at a ceiling, and powers of ten.
-use Rattle.std.proofs.Common.{◌≡◌, ℕ, zero, suc, ◌+◌, ◌*◌, ◌-◌, ◌^◌, ◌<◌, ◌≤◌, min, ◌⊎◌, inl, inr, lit<, add-one, Bool, ◌&&◌, List, [], ◌∷◌, ◌++◌, length, take, drop, get_or, refl, sym, ap, ◌∙◌, arith}
-use Rattle.std.proofs.Math.Nat.{pow-suc, pow-le-pow_right, mul-le-mul_right, mul_assoc, zero-mul}
-use Rattle.std.proofs.Math.Seq.{take-append-add, drop-append-add, take-length, drop-length}
-use Rattle.std.proofs.lemmas.List.{take_more, take-append-le, drop-append-le, append-nil}
-use Rattle.std.proofs.lemmas.Str.{digit_value_digit}
-use Rattle.std.proofs.lemmas.Bool.{cases_lt}
+use Rattle.cts_base.proofs.Vocabulary.{◌≡◌, ℕ, zero, suc, ◌+◌, ◌*◌, ◌-◌, ◌^◌, ◌<◌, ◌≤◌, min, ◌⊎◌, inl, inr, lit<, add-one, Bool, ◌&&◌, List, [], ◌∷◌, ◌++◌, length, take, drop, get_or, refl, sym, ap, ◌∙◌, arith, pow-suc, pow-le-pow_right, mul-le-mul_right, mul_assoc, zero-mul, take-append-add, drop-append-add, take-length, drop-length, take_more, take-append-le, drop-append-le, digit_value_digit, cases_lt, digit_at, digit_value, IsInRange, list_all, AllDigits, digits_value, digits_value_after}
+use Rattle.std.proofs.lemmas.List.{append-nil}
 use Rattle.std.proofs.lemmas.List.Folds.{list_all-append}
-use Rattle.std.proofs.lemmas.Str.Parse.{digit_at}
-use Rattle.std.specs.Char.{digit_value}
-use Rattle.std.specs.Int.{IsInRange}
-use Rattle.std.specs.List.{list_all}
-use Rattle.std.specs.Str.Parse.{AllDigits, digits_value, digits_value_after}
 
 -- ---- one digit more
 
@@ -87,8 +78,7 @@ cut n xs ys = at (cases_lt n (length xs)) where
 
 -- the number that the first so many digits of two lists write, kept at a ceiling
 pub kept_value : (whole fraction : List ℕ) (kept ceiling first second : ℕ)
-    → first ≡ min (digits_value 10 (take (min kept (length whole)) whole)) ceiling
-    → second
+    → first ≡ min (digits_value 10 (take (min kept (length whole)) whole)) ceiling → second
     ≡ min (digits_value_after 10 first (take (kept - min kept (length whole)) fraction)) ceiling
     → second ≡ min (digits_value 10 (take kept (whole ++ fraction))) ceiling
 kept_value whole fraction kept ceiling first second first_is second_is =

@@ -1,14 +1,7 @@
 -- What the steps of reading a size in millionths say of the number's text.
-use Rattle.std.proofs.Common.{◌≡◌, ℕ, ◌+◌, ◌*◌, ◌-◌, ◌^◌, ◌<◌, min, ◌⊎◌, lit<, lit≤, ◌≤◌, ◌/◌, ◌%◌, Ok, Err, Bool, true, false, cond, List, ◌++◌, length, take, drop, refl, sym, ap, ◌∙◌, arith}
-use Rattle.std.proofs.Math.Nat.{mod-add-div', mul-div_cancel, mul-mod_left, one-le-pow}
-use Rattle.std.proofs.lemmas.Bool.{eq-eqb, le-ltb, lt-ltb, ne_eqb}
+use Rattle.cts_base.proofs.Vocabulary.{◌≡◌, ℕ, ◌+◌, ◌*◌, ◌-◌, ◌^◌, ◌<◌, min, ◌⊎◌, lit<, lit≤, ◌≤◌, ◌/◌, ◌%◌, Ok, Err, Bool, true, false, cond, List, ◌++◌, length, take, drop, refl, sym, ap, ◌∙◌, arith, mod-add-div', mul-div_cancel, mul-mod_left, one-le-pow, eq-eqb, le-ltb, lt-ltb, ne_eqb, length-append, length-drop, list_all, digits_value, starts_with_minus, without_leading_sign, is_zero, exponent, whole_digits, fraction_digits, digits, exponent_size, raised, lowered, is_fine_enough, micros_size, size_of, TooFine, TooLarge}
 use Rattle.std.proofs.lemmas.Int.Digits.{digits_value-lt}
-use Rattle.std.proofs.lemmas.List.{length-append, length-drop}
-use Rattle.std.specs.List.{list_all}
-use Rattle.std.specs.Str.Parse.{digits_value, starts_with_minus, without_leading_sign}
-use Rattle.cts_base.specs.Decimals.{is_zero, exponent, whole_digits, fraction_digits, digits, exponent_size, raised, lowered, is_fine_enough, micros_size, size_of}
 use Rattle.cts_base.specs.NumberParts.{HasDigits}
-use Rattle.cts_base.specs.declared.number.NumberFault.TheVariants.{TooFine, TooLarge}
 use Rattle.cts_base.proofs.DecimalLemmas.{digits_short}
 use Rattle.cts_base.proofs.MicroLemmas.{digits_value-split, zeros_value, others_value, IsAligned, IsLeft, places_of, kept_cut, raise_cut, shape, size_is, no_size, raised_cut}
 use Rattle.cts_base.proofs.ScaleLemmas.{digits_of_append, digits_of_drop}
@@ -122,8 +115,7 @@ pub record IsSizeUpTo (text : List ℕ) (ceiling size : ℕ) : Type 0 where
 
 pub size_up_to : (text : List ℕ) (places kept number size : ℕ) → length text < 2 ^ 64
     → IsPlacedIn text places kept
-    → list_all is_zero (drop kept (whole_digits text ++ fraction_digits text)) ≡ true
-    → number
+    → list_all is_zero (drop kept (whole_digits text ++ fraction_digits text)) ≡ true → number
     ≡ min (digits_value 10 (take kept (whole_digits text ++ fraction_digits text))) 1000000000000001
     → size ≡ min (number * 10 ^ (places - kept)) 1000000000000001
     → IsSizeUpTo text 1000000000000001 size

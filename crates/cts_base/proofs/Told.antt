@@ -1,6 +1,5 @@
 -- What a call answers that is told by a text, but where memory is refused.
-use Rattle.std.proofs.Common.{◌≡◌, ◌≢◌, ◌⊎◌, inl, inr, Result, Ok, Err, sym, ◌∙◌}
-use Rattle.cts_base.specs.LineFormats.{IsToldBy}
+use Rattle.cts_base.proofs.Vocabulary.{◌≡◌, ◌≢◌, ◌⊎◌, inl, inr, Result, Ok, Err, sym, ◌∙◌, IsToldBy}
 
 module _ {Value Fault : Type 0} (no_memory : Fault) (told : Result Value Fault) where
   -- a value is the one that is told

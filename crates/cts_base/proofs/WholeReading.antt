@@ -1,7 +1,5 @@
 -- What is read of a whole number's text, after its sign or without one.
-use Rattle.std.proofs.Common.{◌≡◌, ◌≤◌, ◌^◌, ℕ, suc, zero, min, ℤ, pos, negsuc, neg_ℤ, true, false, Option, Some, None, IfSome, IsNone, List, drop, refl, sym, ◌∙◌, arith}
-use Rattle.std.specs.Str.Parse.{digits_value, starts_with_minus}
-use Rattle.cts_base.specs.NumberTexts.{IsPlainNumeral, SpellsWhole, kept_size}
+use Rattle.cts_base.proofs.Vocabulary.{◌≡◌, ◌≤◌, ◌^◌, ℕ, suc, zero, min, ℤ, pos, negsuc, neg_ℤ, true, false, Option, Some, None, IfSome, IsNone, List, drop, refl, sym, ◌∙◌, arith, digits_value, starts_with_minus, IsPlainNumeral, SpellsWhole, kept_size}
 use Rattle.cts_base.proofs.OneSpelling.{plain_no_minus}
 
 -- a number that the text spells, kept at the bound

@@ -1,9 +1,5 @@
 -- The first word of a line, and the words of what follows it.
-use Rattle.std.proofs.Common.{ℕ, ◌≡◌, ◌<◌, ◌+◌, Bool, true, false, Some, None, List, [], ◌∷◌, length, take, drop, refl, ap, ◌∙◌, sym, arith, subst, get_or}
-use Rattle.std.proofs.lemmas.List.{length-take-le}
-use Rattle.std.proofs.lemmas.List.Sums.{passes_at_first}
-use Rattle.std.proofs.lemmas.Bool.Decides.{nat_tests}
-use Rattle.std.specs.List.{filter, position_or_len, position}
+use Rattle.cts_base.proofs.Vocabulary.{ℕ, ◌≡◌, ◌<◌, ◌+◌, Bool, true, false, Some, None, List, [], ◌∷◌, length, take, drop, refl, ap, ◌∙◌, sym, arith, subst, get_or, length-take-le, passes_at_first, nat_tests, filter, position_or_len, position}
 use Rattle.cts_base.specs.Words.{is_blank, is_not_blank, is_not_empty, words_of}
 use Rattle.cts_base.proofs.Places.{place_of_Some, place_of_None, slice_split-cut, slice_split-whole, drop-one_more, drop-cons_then}
 use Rattle.std.proofs.Math.ListN.{drop_of_length-le}
@@ -34,8 +30,7 @@ begins-after [] = refl
 begins-after (byte ∷ line) = at (begins-after line) (is_blank byte) refl
   where
     at : position_or_len is_not_blank (drop (position_or_len is_not_blank line) line) ≡ 0
-        → (b : Bool) → is_blank byte ≡ b
-        → position_or_len is_not_blank
+        → (b : Bool) → is_blank byte ≡ b → position_or_len is_not_blank
         (drop (position_or_len is_not_blank (byte ∷ line)) (byte ∷ line)) ≡ 0
     at begins true blank = rw (blank, drop-one_more) begins
     at begins false blank = rw (blank, blank) refl

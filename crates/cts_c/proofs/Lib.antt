@@ -1,3 +1,4 @@
+mod Vocabulary
 mod RefusalLemmas
 mod ResultLemmas
 mod StatusLemmas

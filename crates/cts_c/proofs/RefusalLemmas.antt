@@ -1,8 +1,7 @@
 -- Texts that are accepted aren't refused, and what a refusal leaves of a call.
-use Rattle.std.proofs.Common.{◌≡◌, ℕ, List, inr, refl}
+use Rattle.cts_c.proofs.Vocabulary.{◌≡◌, ℕ, List, inr, refl, JoinsMoreThan, table_accepted, table_fine, AreBothRefused, AreRefused, FailsFor, refusal_failure, pair_failure, Failure, Refused, NoMemory}
 use Rattle.cts_model.specs.declared.circuit.Circuit.{Circuit}
 use Rattle.cts_model.specs.declared.tech.Tech.{Tech}
-use Rattle.cts_model.specs.timing.PairLists.{JoinsMoreThan}
 use Rattle.bench_reader.proofs.OneFault.{no_fault}
 use Rattle.path_delays.specs.JoinedPairs.{ShowsTooMany}
 use Rattle.path_delays.specs.declared.fault.PairFault.{PairFault}
@@ -10,11 +9,6 @@ use Rattle.path_delays.specs.declared.fault.PairFault.TheVariants as pairs
 use Rattle.cts_engine.specs.Accepted.{TellBoth, IsCircuitRefusal, IsRefusal}
 use Rattle.cts_engine.specs.declared.refusals.Refusal.{Refusal}
 use Rattle.cts_engine.specs.declared.refusals.Refusal.TheVariants as refusals
-use Rattle.cts_engine.proofs.OneProblem.{table_accepted, table_fine}
-use Rattle.cts_c.specs.Refusals.{AreBothRefused, AreRefused, FailsFor}
-use Rattle.cts_c.specs.Statuses.{refusal_failure, pair_failure}
-use Rattle.cts_c.specs.declared.failure.Failure.{Failure}
-use Rattle.cts_c.specs.declared.failure.Failure.TheVariants.{Refused, NoMemory}
 
 module _ (bench tech : List ℕ) where
   -- two texts that tell a circuit have no refusal but want of memory

@@ -1,9 +1,6 @@
 -- What the status of a call rules out, and the text that it hands over.
-use Rattle.std.proofs.Common.{◌≡◌, ◌≢◌, ◌⊎◌, inl, inr, ℕ, List, sym, ap, ◌∙◌, subst, arith}
+use Rattle.cts_c.proofs.Vocabulary.{◌≡◌, ◌≢◌, ◌⊎◌, inl, inr, ℕ, List, sym, ap, ◌∙◌, subst, arith, failure_status, IsEnding, IsFailure, IsStatus, Failure, NoMemory}
 use Rattle.cts_c.specs.Buffers.{IsHanded, IsTooLarge}
-use Rattle.cts_c.specs.Statuses.{failure_status, IsEnding, IsFailure, IsStatus}
-use Rattle.cts_c.specs.declared.failure.Failure.{Failure}
-use Rattle.cts_c.specs.declared.failure.Failure.TheVariants.{NoMemory}
 
 module _ (Is : ℕ → List ℕ → Type 0) (ending : ℕ) (text : List ℕ) (is : Is ending text)
     (before now : List ℕ) (status size : ℕ) where

@@ -1,26 +1,5 @@
 -- How late the arrivals of a least schedule are, and its leads.
-use Rattle.std.proofs.Common.{◌⊎◌, ◌<◌, ◌≤◌, ◌-◌, ◌*◌, ℕ, ℤ, pos, ◌≤ℤ◌, List, length, get_or, Contains, inl, inr, arith}
-use Rattle.std.specs.Prelude.{nat_abs}
-use Rattle.std.specs.List.{All}
-use Rattle.std.proofs.lemmas.Bool.{cases_lt}
-use Rattle.std.proofs.lemmas.Int.{ints}
-use Rattle.std.proofs.lemmas.List.{get_or_past}
-use Rattle.std.proofs.lemmas.List.Elements.{All-contains}
-use Rattle.std.proofs.lemmas.Nat.{mul-le}
-use Rattle.cts_base.specs.declared.fraction.Fraction.{Fraction}
-use Rattle.cts_model.specs.declared.circuit.Circuit.{Circuit}
-use Rattle.cts_model.specs.declared.constraint.Constraint.{Constraint}
-use Rattle.cts_model.specs.declared.schedule.Lead.{Lead}
-use Rattle.cts_model.specs.declared.schedule.Lead.TheVariants.{Zero, Tight}
-use Rattle.cts_model.specs.declared.tech.Tech.{Tech}
-use Rattle.cts_model.specs.timing.Constraints.{IsConstraintOf}
-use Rattle.cts_model.specs.timing.Leads.{EachLead, IsLead, lead_at}
-use Rattle.cts_model.specs.timing.LeastPeriods.{IsLeastFraction}
-use Rattle.cts_model.specs.timing.Schedules.{AreFromZero, IsSmallPeriod, arrival_of}
-use Rattle.cts_model.specs.table.Tables.{IsWithin}
-use Rattle.schedule.specs.Schedules.{AreWithinWeights, IsAdmittedBy}
-use Rattle.cts_engine.specs.PairConstraints.{AreConstraintsOf, HasSmallPairs}
-use Rattle.cts_engine.specs.RegisterTimes.{AreTreeArrivals}
+use Rattle.cts_engine.proofs.Vocabulary.{◌⊎◌, ◌<◌, ◌≤◌, ◌-◌, ◌*◌, ℕ, ℤ, pos, ◌≤ℤ◌, List, length, get_or, Contains, inl, inr, arith, nat_abs, All, cases_lt, ints, get_or_past, All-contains, mul-le, Fraction, Circuit, Constraint, Lead, Zero, Tight, Tech, IsConstraintOf, EachLead, IsLead, lead_at, IsLeastFraction, AreFromZero, IsSmallPeriod, arrival_of, IsWithin, AreWithinWeights, IsAdmittedBy, AreConstraintsOf, HasSmallPairs, AreTreeArrivals}
 use Rattle.cts_engine.proofs.DelayLemmas.{weight_small}
 
 -- so many weights over a denominator

@@ -1,29 +1,9 @@
 -- How many constraints a cycle has, and what paths of its constraints keep to.
-use Rattle.std.proofs.Common.{◌≡◌, ◌≢◌, ◌<◌, ◌≤◌, ◌+◌, ◌-◌, ◌+ℤ◌, ◌-ℤ◌, ℕ, suc, Bool, true, false, cond, List, [], ◌∷◌, length, map, All, AllPairs, Option, Some, None, refl, sym, ap, subst, arith}
-use Rattle.std.specs.Prelude.{IsSomeAnd, MatchBool, nat_le, slice_get}
-use Rattle.std.specs.Option.{option_and_then, option_map_or}
-use Rattle.std.proofs.lemmas.Bool.{leb-true}
-use Rattle.std.proofs.lemmas.Bool.Decides.{Decides-eqb}
-use Rattle.std.proofs.lemmas.List.{length-map}
-use Rattle.std.proofs.lemmas.List.Elements.{All-contains, All-cons, All-map, All-nil}
-use Rattle.std.proofs.lemmas.List.Kept.{AllPairs-cons}
+use Rattle.cts_engine.proofs.Vocabulary.{◌≡◌, ◌≢◌, ◌<◌, ◌≤◌, ◌+◌, ◌-◌, ◌+ℤ◌, ◌-ℤ◌, ℕ, suc, Bool, true, false, cond, List, [], ◌∷◌, length, map, AllPairs, Option, Some, None, refl, sym, ap, subst, arith, IsSomeAnd, MatchBool, nat_le, slice_get, option_and_then, option_map_or, leb-true, Decides-eqb, length-map, All-contains, All-cons, All-map, All-nil, AllPairs-cons, slice_get_within, Circuit, Constraint, Signal, Tech, has_host, ArePathsWithin, GivesWeight, IsConstraintOf, IsCycle, greatest_delay, least_delay, is_host, Follows, IsInput, IsPath, Launches, tails_within, some_and}
+use Rattle.std.proofs.Common.{All}
 use Rattle.std.proofs.lemmas.Map.Made.{IsDistinct-from_AllPairs}
 use Rattle.std.proofs.lemmas.Map.Steps.{length-le_from_distinct_below}
 use Rattle.std.proofs.lemmas.Map.Views.{Contains-from_any}
-use Rattle.std.proofs.lemmas.Option.{slice_get_within}
-use Rattle.cts_model.specs.declared.circuit.Circuit.{Circuit}
-use Rattle.cts_model.specs.declared.constraint.Constraint.{Constraint}
-use Rattle.cts_model.specs.declared.signal.Signal.{Signal}
-use Rattle.cts_model.specs.declared.tech.Tech.{Tech}
-use Rattle.cts_model.specs.netlist.Circuits.{has_host}
-use Rattle.cts_model.specs.timing.ConstraintPaths.{ArePathsWithin, GivesWeight}
-use Rattle.cts_model.specs.timing.Constraints.{IsConstraintOf}
-use Rattle.cts_model.specs.timing.Cycles.{IsCycle}
-use Rattle.cts_model.specs.timing.Delays.{greatest_delay, least_delay}
-use Rattle.cts_model.specs.netlist.Kinds.{is_host}
-use Rattle.cts_model.specs.netlist.Paths.{Follows, IsInput, IsPath, Launches}
-use Rattle.cts_model.proofs.PathRegisters.{tails_within}
-use Rattle.cts_model.proofs.TopologyLemmas.{some_and}
 
 -- ---- cycles
 

@@ -1,29 +1,7 @@
 -- How large the weights of a circuit's constraints are, and what its registers have to spare.
-use Rattle.std.proofs.Common.{◌≡◌, ◌≤◌, ◌^◌, ℕ, ℤ, pos, ◌+ℤ◌, ◌*ℤ◌, Option, Some, None, Bool, true, false, List, get_or, sym, ap, subst, ◌∙◌, arith}
-use Rattle.std.specs.List.{All}
-use Rattle.std.specs.Prelude.{MatchBool, nat_abs}
-use Rattle.std.proofs.lemmas.Int.{ints}
-use Rattle.std.proofs.lemmas.Option.{slice_get-get_or}
-use Rattle.cts_base.specs.declared.fraction.Fraction.{Fraction}
-use Rattle.cts_model.specs.declared.circuit.Circuit.{Circuit}
-use Rattle.cts_model.specs.declared.constraint.Constraint.{Constraint}
-use Rattle.cts_model.specs.declared.schedule.Schedule.{Schedule}
+use Rattle.cts_engine.proofs.Vocabulary.{◌≡◌, ◌≤◌, ◌^◌, ℕ, ℤ, pos, ◌+ℤ◌, ◌*ℤ◌, Option, Some, None, Bool, true, false, List, get_or, sym, ap, subst, ◌∙◌, arith, All, MatchBool, nat_abs, ints, slice_get-get_or, Fraction, Circuit, Constraint, Schedule, Tech, PairDelay, IsConstraintOf, IsHoldConstraint, IsSetupConstraint, least_delay, greatest_delay, IsPairDelay, IsSmallPair, IsPath, IsBelow, AreSmallSlacks, IsSmallSlack, IsSmallPeriod, arrival_of, AreSlacks, IsLeastSpare, IsSlackOf, hold_spare, setup_spare, IsWithin, scale_le, size_same, HasSmallPairs}
 use Rattle.cts_model.specs.declared.schedule.Slack.{Slack}
-use Rattle.cts_model.specs.declared.tech.Tech.{Tech}
-use Rattle.cts_model.specs.declared.timing.PairDelay.{PairDelay}
-use Rattle.cts_model.specs.timing.Constraints.{IsConstraintOf, IsHoldConstraint, IsSetupConstraint}
-use Rattle.cts_model.specs.timing.Delays.{least_delay, greatest_delay}
-use Rattle.cts_model.specs.timing.EqualArrivals.{IsPairDelay}
-use Rattle.cts_model.specs.timing.PairLists.{IsSmallPair}
-use Rattle.cts_model.specs.netlist.Paths.{IsPath}
-use Rattle.cts_model.specs.placement.Points.{IsBelow}
-use Rattle.cts_model.specs.timing.Slacks.{AreSmallSlacks, IsSmallSlack}
-use Rattle.cts_model.specs.timing.Schedules.{IsSmallPeriod, arrival_of}
-use Rattle.cts_model.specs.timing.Slacks.{AreSlacks, IsLeastSpare, IsSlackOf, hold_spare, setup_spare}
-use Rattle.cts_model.specs.table.Tables.{IsWithin}
-use Rattle.cts_model.proofs.ScaleLemmas.{scale_le, size_same}
 use Rattle.path_delays.specs.JoinedPairs.{ArePairs}
-use Rattle.cts_engine.specs.PairConstraints.{HasSmallPairs}
 
 -- listed pairs have small delays
 pub small_pairs : (circuit : Circuit) (tech : Tech) (pairs : List PairDelay)
@@ -175,8 +153,7 @@ module _ {circuit : Circuit} {tech : Tech} (small : HasSmallPairs circuit tech) 
 
     -- the slacks of all registers
     pub slacks_small : (schedule : Schedule) (slacks : List Slack) → schedule.at ≡ at
-        → AreSlacks circuit tech period schedule slacks
-        → All (AreSmallSlacks period.den) slacks
+        → AreSlacks circuit tech period schedule slacks → All (AreSmallSlacks period.den) slacks
     slacks_small schedule slacks same are register default here =
         let slack = get_or slacks register default in
         let is = are.each register slack (slice_get-get_or slacks register default here) in

@@ -1,19 +1,5 @@
 -- The wires of a tree, drawn merge by merge.
-use Rattle.std.proofs.Common.{◌≡◌, ◌≢◌, ◌⊎◌, ◌<◌, ◌≤◌, ◌+◌, ◌*◌, ℕ, List, length, get_or, Some, inl, inr, refl, sym, ap, subst, ◌∙◌, arith}
-use Rattle.std.specs.List.{All}
-use Rattle.std.specs.Prelude.{slice_get}
-use Rattle.std.proofs.lemmas.Bool.{cases_eq, cases_lt}
-use Rattle.std.proofs.lemmas.List.{get_or-set_same, get_or-set_other, length-set}
-use Rattle.std.proofs.lemmas.Option.{slice_get_within, slice_get-get_or, get_or_from_slice_get}
-use Rattle.cts_model.specs.declared.tree.Merge.{Merge}
-use Rattle.cts_model.specs.declared.tree.Tree.{Tree}
-use Rattle.cts_model.specs.declared.tree.Wire.{Wire}
-use Rattle.cts_model.specs.tree.Embeddings.{embedding_of}
-use Rattle.cts_model.specs.report.ReportBounds.{IsSmallWire}
-use Rattle.cts_model.specs.tree.Topologies.{IsParent, IsTopology, Joins, root_of, source_of}
-use Rattle.cts_model.proofs.ParentLemmas.{joined_by, made_parent, one_parent}
-use Rattle.cts_model.proofs.TopologyLemmas.{first_made, merge_at, merge_here, second_made, some_and}
-use Rattle.cts_engine.specs.TreeParts.{AreDrawn, IsEdgeDrawn, IsWireOf}
+use Rattle.cts_engine.proofs.Vocabulary.{◌≡◌, ◌≢◌, ◌⊎◌, ◌<◌, ◌≤◌, ◌+◌, ◌*◌, ℕ, List, length, get_or, Some, inl, inr, refl, sym, ap, subst, ◌∙◌, arith, All, slice_get, cases_eq, cases_lt, get_or-set_same, get_or-set_other, length-set, slice_get_within, slice_get-get_or, get_or_from_slice_get, Merge, Tree, Wire, embedding_of, IsSmallWire, IsParent, IsTopology, Joins, root_of, source_of, joined_by, made_parent, one_parent, first_made, merge_at, merge_here, second_made, some_and, AreDrawn, IsEdgeDrawn, IsWireOf}
 
 -- the wire at the node's number is drawn from the parent
 abbrev pub HasWire : Tree → (node parent : ℕ) → List Wire → Type 0
@@ -95,8 +81,7 @@ module _ {sinks : ℕ} {merges : List Merge} (topology : IsTopology sinks merges
   -- one more merge
   pub drawn_more : (place next : ℕ) (merge : Merge) (old middle new : List Wire)
       → slice_get merges place ≡ Some merge → AreDrawnBefore sinks merges tree place next old
-      → IsEdgeDrawn tree merge.first next old middle
-      → IsEdgeDrawn tree merge.second next middle new
+      → IsEdgeDrawn tree merge.first next old middle → IsEdgeDrawn tree merge.second next middle new
       → AreDrawnBefore sinks merges tree (place + 1) (next + 1) new
   drawn_more place next merge old middle new here before first second =
       let low = (joined_low place next merge old here before).0 in

@@ -1,21 +1,10 @@
 -- The gates of a circuit that texts tell form no ring: the host, which it may have besides, is on
 -- none.
-use Rattle.std.proofs.Common.{◌≡◌, ℕ, Bool, true, false, List, [], ◌∷◌, ◌++◌, length, Option, Some, None, IsTrue, IsSomeAnd, MatchBool, nat_eq, get_or, Contains, inl, inr, refl, sym, ap, ◌∙◌, subst, arith}
+use Rattle.cts_engine.proofs.Vocabulary.{◌≡◌, ℕ, Bool, true, false, List, [], ◌∷◌, ◌++◌, length, Option, Some, None, IsTrue, nat_eq, get_or, Contains, inl, inr, refl, sym, ap, ◌∙◌, subst, arith, cases_lt, length_push, slice_get_within, slice_get-get_or, get_or_from_slice_get, Signal, Circuit, Tech, host_signal, IsWithHost, is_gate, AcceptsNetlist, Reads, Follows, IsLoop, IsHostedBy, TellBoth}
+use Rattle.std.proofs.Common.{IsSomeAnd, MatchBool}
 use Rattle.std.specs.List.{slice_get}
 use Rattle.std.proofs.Math.ListN.{get_or-append}
 use Rattle.std.proofs.Math.Seq.{get_or-append_seam}
-use Rattle.std.proofs.lemmas.Bool.{cases_lt}
-use Rattle.std.proofs.lemmas.List.{length_push}
-use Rattle.std.proofs.lemmas.Option.{slice_get_within, slice_get-get_or, get_or_from_slice_get}
-use Rattle.cts_model.specs.declared.signal.Signal.{Signal}
-use Rattle.cts_model.specs.declared.circuit.Circuit.{Circuit}
-use Rattle.cts_model.specs.declared.tech.Tech.{Tech}
-use Rattle.cts_model.specs.netlist.Circuits.{host_signal}
-use Rattle.cts_model.specs.netlist.Hosts.{IsWithHost}
-use Rattle.cts_model.specs.netlist.Kinds.{is_gate}
-use Rattle.bench_reader.specs.Netlists.{AcceptsNetlist}
-use Rattle.cts_model.specs.netlist.Paths.{Reads, Follows, IsLoop}
-use Rattle.cts_engine.specs.Accepted.{IsHostedBy, TellBoth}
 
 -- with the host a gate reads what it read
 reads_bare : (signals : List Signal) (outputs : List ℕ) (gate read : ℕ)

@@ -1,3 +1,4 @@
+mod Vocabulary
 mod PlaceLemmas
 mod OutcomeLemmas
 mod WireLemmas

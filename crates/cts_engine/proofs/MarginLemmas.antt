@@ -1,25 +1,9 @@
 -- From the greatest margin of a circuit's constraints to that of its paths.
-use Rattle.std.proofs.Common.{◌≡◌, ◌≢◌, ◌↔◌, ℕ, ℤ, ◌+ℤ◌, ◌≤ℤ◌, List, [], ◌∷◌, length, get_or, inl, inr, refl, sym, ap, ◌∙◌, subst, arith}
-use Rattle.std.specs.List.{All, Contains}
-use Rattle.std.proofs.lemmas.Bool.{cases_eq}
-use Rattle.std.proofs.lemmas.Int.{ints}
-use Rattle.std.proofs.lemmas.List.Elements.{All-cons, All-nil, All-weaker, All-contains_itself}
-use Rattle.std.proofs.lemmas.List.Kept.{AllPairs-cons}
-use Rattle.cts_base.specs.declared.fraction.Fraction.{Fraction}
-use Rattle.cts_model.specs.declared.circuit.Circuit.{Circuit}
-use Rattle.cts_model.specs.declared.constraint.Constraint.{Constraint}
-use Rattle.cts_model.specs.declared.schedule.Schedule.{Schedule}
-use Rattle.cts_model.specs.declared.tech.Tech.{Tech}
-use Rattle.cts_model.specs.declared.timing.PairDelay.{PairDelay}
-use Rattle.cts_model.specs.timing.Constraints.{IsConstraintOf}
-use Rattle.cts_model.specs.timing.Delays.{least_delay, greatest_delay}
-use Rattle.cts_model.specs.timing.EqualArrivals.{IsPairDelay}
-use Rattle.cts_model.specs.timing.PairLists.{ListsPairs}
-use Rattle.cts_model.specs.netlist.Paths.{IsPath}
+use Rattle.cts_engine.proofs.Vocabulary.{◌≡◌, ◌≢◌, ◌↔◌, ℕ, ℤ, ◌+ℤ◌, ◌≤ℤ◌, List, [], ◌∷◌, length, get_or, inl, inr, refl, sym, ap, ◌∙◌, subst, arith, All, cases_eq, ints, All-cons, All-nil, All-weaker, All-contains_itself, AllPairs-cons, Fraction, Circuit, Constraint, Schedule, Tech, PairDelay, IsConstraintOf, least_delay, greatest_delay, IsPairDelay, ListsPairs, IsPath, constraints_at}
+use Rattle.std.specs.List.{Contains}
 use Rattle.constraints.specs.PairConstraints.{setup_constraint, hold_constraint, constraints_of_pairs}
 use Rattle.constraints.proofs.BothOfPairs.{HaveBoth, all_from_each, each_from_all}
 use Rattle.constraints.proofs.PairInequalities.{setup_met, hold_met, setup_satisfied, hold_satisfied}
-use Rattle.critical_cycle.specs.CyclePlaces.{constraints_at}
 use Rattle.safety_margin.specs.declared.margin.Margin.{Margin}
 use Rattle.safety_margin.specs.declared.margin.Margin.TheVariants as margins
 use Rattle.safety_margin.specs.Answers.{IsGreatestMargin, IsMarginOf}
@@ -50,8 +34,7 @@ module _ {circuit : Circuit} {tech : Tech} {pairs : List PairDelay}
   module _ (scale : ℕ) (period margin : ℤ) (arrival : ℕ → ℤ) where
     -- what is spared over every path is spared in both constraints of a pair
     both_spared : SparesOverPaths circuit tech scale period margin arrival → (pair : PairDelay)
-        → IsPairDelay circuit tech pair
-        → HaveBoth tech (SparesOne scale period margin arrival) pair
+        → IsPairDelay circuit tech pair → HaveBoth tech (SparesOne scale period margin arrival) pair
     both_spared over pair delays =
         let launch = arrival pair.from in
         let capture = arrival pair.to in

@@ -1,31 +1,16 @@
 -- The texts of a problem tell one circuit, one table and one problem, and texts that tell a problem
 -- have no refusal.
-use Rattle.std.proofs.Common.{ℕ, ◌≡◌, ◌⊎◌, inl, inr, Bool, true, false, ◌==◌, MatchBool, List, length, Result, Ok, Err, IfOk, IfErr, refl, ap, sym, ◌∙◌, subst}
+use Rattle.cts_engine.proofs.Vocabulary.{ℕ, ◌≡◌, ◌⊎◌, inl, inr, Bool, true, false, ◌==◌, List, length, Result, Ok, Err, IfOk, IfErr, refl, ap, sym, ◌∙◌, subst, Circuit, Places, Problem, Signal, Tech, AcceptsTable, IsWithHost, IsProblem, AreUsedKinds, not_both, one_value, AcceptsNetlist, TechFault, PlaceFault, AcceptsPlacement, Refusal, IsHostedBy, TellsDelays, TellBoth, TellAll, IsTableOf, IsPlacementOf, HasTableFault, HasPlacesFault, IsRefusal}
+use Rattle.std.proofs.Common.{MatchBool}
 use Rattle.std.proofs.Props.{props}
-use Rattle.cts_model.specs.declared.circuit.Circuit.{Circuit}
-use Rattle.cts_model.specs.declared.place.Places.{Places}
-use Rattle.cts_model.specs.declared.problem.Problem.{Problem}
-use Rattle.cts_model.specs.declared.signal.Signal.{Signal}
-use Rattle.cts_model.specs.declared.tech.Tech.{Tech}
-use Rattle.cts_model.specs.table.AcceptedTables.{AcceptsTable}
-use Rattle.cts_model.specs.netlist.Hosts.{IsWithHost}
 use Rattle.cts_model.specs.netlist.Netlists.{signals_of}
-use Rattle.cts_model.specs.tree.Problems.{IsProblem}
-use Rattle.cts_model.specs.netlist.UsedKinds.{AreUsedKinds}
-use Rattle.cts_base.proofs.Told.{not_both, one_value}
 use Rattle.cts_model.proofs.OneRecord.{same_circuit, one_use}
-use Rattle.bench_reader.specs.Netlists.{AcceptsNetlist}
 use Rattle.bench_reader.proofs.OneFault.{no_fault}
-use Rattle.delay_tables.specs.declared.fault.TechFault.{TechFault}
 use Rattle.delay_tables.specs.Refusals.{RefusesTable}
 use Rattle.delay_tables.proofs.OneFault.{not_refused}
 use Rattle.delay_tables.proofs.OneTable.{one_table}
-use Rattle.place_reader.specs.declared.fault.PlaceFault.{PlaceFault}
 use Rattle.place_reader.specs.Placements as placements
-use Rattle.place_reader.specs.Placements.{AcceptsPlacement}
-use Rattle.cts_engine.specs.declared.refusals.Refusal.{Refusal}
 use Rattle.cts_engine.specs.declared.refusals.Refusal.TheVariants as refusals
-use Rattle.cts_engine.specs.Accepted.{IsHostedBy, TellsDelays, TellBoth, TellAll, IsTableOf, IsPlacementOf, HasTableFault, HasPlacesFault, IsRefusal}
 
 -- ---- one circuit and one table
 

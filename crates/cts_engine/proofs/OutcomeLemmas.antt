@@ -1,24 +1,9 @@
 -- From the least period of a circuit's constraints to the outcome of the circuit.
-use Rattle.std.proofs.Common.{◌≡◌, ◌↔◌, ℕ, ℤ, pos, ◌*ℤ◌, ◌≤ℤ◌, List, arith}
-use Rattle.std.specs.Prelude.{nat_abs}
-use Rattle.std.proofs.lemmas.Int.{ints}
-use Rattle.cts_base.specs.declared.fraction.Fraction.{Fraction}
-use Rattle.cts_model.specs.declared.circuit.Circuit.{Circuit}
-use Rattle.cts_model.specs.declared.tech.Tech.{Tech}
-use Rattle.cts_model.specs.declared.constraint.Constraint.{Constraint}
-use Rattle.cts_model.specs.declared.period.PeriodShow.TheVariants.{Cycle}
+use Rattle.cts_engine.proofs.Vocabulary.{◌≡◌, ◌↔◌, ℕ, ℤ, pos, ◌*ℤ◌, ◌≤ℤ◌, List, arith, nat_abs, ints, Fraction, Circuit, Tech, Constraint, Cycle, IsConstraintOf, IsLeastPeriodOf, arrival_of, AreLeastArrivals, IsLeastScheduleOf, IsForbidding, IsPeriodShow, HasNoPeriod, Found, Never, AreConstraintsOf, constraints_at}
 use Rattle.cts_model.specs.timing.Timing.{IsLeastPeriod}
-use Rattle.cts_model.specs.timing.Constraints.{IsConstraintOf}
-use Rattle.cts_model.specs.timing.Cycles.{IsLeastPeriodOf}
-use Rattle.cts_model.specs.timing.Schedules.{arrival_of, AreLeastArrivals}
-use Rattle.schedule.specs.Schedules.{IsLeastScheduleOf}
-use Rattle.cts_model.specs.timing.LeastPeriods.{IsForbidding, IsPeriodShow, HasNoPeriod}
 use Rattle.cts_model.proofs.CircuitConstraints.{forbidding_at_all}
 use Rattle.outcomes.specs.declared.period.PeriodOutcome.{PeriodOutcome}
-use Rattle.outcomes.specs.declared.period.PeriodOutcome.TheVariants.{Found, Never}
 use Rattle.outcomes.specs.PeriodOutcomes.{IsPeriodOutcome, IsNeverOutcome}
-use Rattle.cts_engine.specs.PairConstraints.{AreConstraintsOf}
-use Rattle.critical_cycle.specs.CyclePlaces.{constraints_at}
 use Rattle.critical_cycle.specs.Periods.{IsShownPeriod, IsForbidden}
 use Rattle.cts_engine.proofs.PlaceLemmas.{All-constraints_at}
 

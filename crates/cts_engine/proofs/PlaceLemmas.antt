@@ -1,12 +1,5 @@
 -- The constraints at places of a list.
-use Rattle.std.proofs.Common.{◌≡◌, ◌<◌, ◌+◌, ℕ, List, [], ◌∷◌, ◌++◌, length, take, get_or, ap, subst, sym, ◌∙◌, false, pos}
-use Rattle.std.specs.List.{All, cons_option}
-use Rattle.std.specs.Prelude.{slice_get}
-use Rattle.std.proofs.lemmas.List.{take_more}
-use Rattle.std.proofs.lemmas.List.Elements.{All-nil, All-cons, All-head, All-tail, All-get_or, filter_map-append}
-use Rattle.std.proofs.lemmas.Option.{slice_get-get_or}
-use Rattle.cts_model.specs.declared.constraint.Constraint.{Constraint}
-use Rattle.critical_cycle.specs.CyclePlaces.{AreWithin, constraints_at}
+use Rattle.cts_engine.proofs.Vocabulary.{◌≡◌, ◌<◌, ◌+◌, ℕ, List, [], ◌∷◌, ◌++◌, length, take, get_or, ap, subst, sym, ◌∙◌, false, pos, All, cons_option, slice_get, take_more, All-nil, All-cons, All-head, All-tail, All-get_or, filter_map-append, slice_get-get_or, Constraint, AreWithin, constraints_at}
 
 -- what stands at no place
 unread : Constraint

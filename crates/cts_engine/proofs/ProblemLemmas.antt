@@ -1,38 +1,18 @@
 -- What the texts of a problem tell keeps to what a problem is: its delays serve its circuit, which
 -- has the host where the table gives it a place, and its registers have places that aren't far
 -- away.
-use Rattle.std.proofs.Common.{◌≡◌, ◌≢◌, ◌≤◌, ◌^◌, ◌+◌, ◌==◌, ◌↔◌, ℕ, ℤ, pos, negsuc, nat_abs, Bool, true, false, IsTrue, MatchBool, List, [], ◌∷◌, length, map, ◌++◌, cond, Option, Some, None, Result, Ok, Err, get_or, All, refl, sym, ap, ◌∙◌, subst, true≢false, arith}
-use Rattle.std.proofs.lemmas.Bool.Decides.{Decides-eqb}
-use Rattle.std.proofs.lemmas.Int.{ints}
-use Rattle.std.proofs.lemmas.List.{get_or_default, length-map}
-use Rattle.std.proofs.lemmas.List.Elements.{All-append, All-cons, All-nil}
-use Rattle.std.specs.Option.{option_map, option_to_list}
+use Rattle.cts_engine.proofs.Vocabulary.{◌≡◌, ◌≢◌, ◌≤◌, ◌^◌, ◌+◌, ◌==◌, ◌↔◌, ℕ, ℤ, pos, negsuc, Bool, true, false, IsTrue, List, [], ◌∷◌, length, map, ◌++◌, cond, Option, Some, None, Result, Ok, Err, get_or, refl, sym, ap, ◌∙◌, subst, true≢false, arith, Decides-eqb, ints, get_or_default, length-map, All-append, All-cons, All-nil, option_map, option_to_list, Circuit, Places, Point, Signal, Tech, GivesKinds, has_host, host_signal, delay_of, HasNoHost, IsWithHost, is_gate, IsLoop, IsBelow, IsPointBelow, GivesUsedKinds, IsProblem, AreUsedKinds, AcceptsPlacement, place_by, place_of, places_after, register_nodes, IsHostedBy}
+use Rattle.std.proofs.Common.{nat_abs, MatchBool, All}
 use Rattle.std.specs.Result.{result_ok}
 use Rattle.std.specs.Str.{bytes_eq}
 use Rattle.cts_base.specs.Decimals.{micros_of}
 use Rattle.cts_base.specs.Lines.{lines_of}
 use Rattle.cts_base.specs.declared.number.NumberFault.{NumberFault}
 use Rattle.cts_base.proofs.Micros.{micros_within}
-use Rattle.cts_model.specs.declared.circuit.Circuit.{Circuit}
-use Rattle.cts_model.specs.declared.place.Places.{Places}
-use Rattle.cts_model.specs.declared.place.Point.{Point}
-use Rattle.cts_model.specs.declared.signal.Signal.{Signal}
-use Rattle.cts_model.specs.declared.tech.Tech.{Tech}
-use Rattle.cts_model.specs.table.AcceptedTables.{GivesKinds}
-use Rattle.cts_model.specs.netlist.Circuits.{has_host, host_signal}
-use Rattle.cts_model.specs.timing.Delays.{delay_of}
-use Rattle.cts_model.specs.netlist.Hosts.{HasNoHost, IsWithHost}
-use Rattle.cts_model.specs.netlist.Kinds.{is_gate}
-use Rattle.cts_model.specs.netlist.Paths.{IsLoop}
 use Rattle.cts_model.specs.placement.Coordinates.{point_from, point_of}
 use Rattle.cts_model.specs.placement.PlaceLines.{Node, Entry, Blank, Header, Stands, entry_after}
-use Rattle.cts_model.specs.placement.Points.{IsBelow, IsPointBelow}
-use Rattle.cts_model.specs.tree.Problems.{GivesUsedKinds, IsProblem}
-use Rattle.cts_model.specs.netlist.UsedKinds.{AreUsedKinds}
 use Rattle.cts_model.proofs.HostedCircuits.{has_host-with_host}
-use Rattle.place_reader.specs.Placements.{AcceptsPlacement, place_by, place_of, places_after, register_nodes}
 use Rattle.place_reader.proofs.TellsPlaces.{accepted_gives}
-use Rattle.cts_engine.specs.Accepted.{IsHostedBy}
 
 -- ---- delays
 
@@ -152,8 +132,7 @@ near_given earlier (line ∷ later) name point found =
 
     by : (node : Node) (told : Result Point NumberFault) → point_of node.x node.y ≡ told
         → place_of (option_to_list (option_map (λ p. (node.name, p)) (result_ok told)) ++ rest) name
-        ≡ Some point
-        → (place_of rest name ≡ Some point → IsPointBelow 1000000000000001 point)
+        ≡ Some point → (place_of rest name ≡ Some point → IsPointBelow 1000000000000001 point)
         → IsPointBelow 1000000000000001 point
     by node (Err fault) known found later_near = later_near found
     by node (Ok there) known found later_near =

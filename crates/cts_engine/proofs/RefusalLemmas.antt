@@ -1,22 +1,12 @@
 -- What a text that isn't read leaves of the texts of a problem: a refusal, or want of memory.
-use Rattle.std.proofs.Common.{◌≡◌, ◌⊎◌, inl, inr, ℕ, Bool, List, Err, subst}
+use Rattle.cts_engine.proofs.Vocabulary.{◌≡◌, ◌⊎◌, inl, inr, ℕ, Bool, List, Err, subst, told_fault, Circuit, Tech, AreUsedKinds, AcceptsNetlist, RefusesNetlist, TechFault, PlaceFault, places_in, Refusal, TellBoth, bench_refusal_of, tech_refusal_of, places_refusal_of, IsCircuitRefusal, IsRefusal}
 use Rattle.cts_base.specs.LineFormats.{IsToldBy}
-use Rattle.cts_base.proofs.Told.{told_fault}
-use Rattle.cts_model.specs.declared.circuit.Circuit.{Circuit}
-use Rattle.cts_model.specs.declared.tech.Tech.{Tech}
-use Rattle.cts_model.specs.netlist.UsedKinds.{AreUsedKinds}
 use Rattle.bench_reader.specs.declared.fault.BenchFault.{BenchFault}
 use Rattle.bench_reader.specs.declared.fault.BenchFault.TheVariants as bench
-use Rattle.bench_reader.specs.Netlists.{AcceptsNetlist, RefusesNetlist}
-use Rattle.delay_tables.specs.declared.fault.TechFault.{TechFault}
 use Rattle.delay_tables.specs.declared.fault.TechFault.TheVariants as tech
 use Rattle.delay_tables.specs.Refusals as tables
-use Rattle.place_reader.specs.declared.fault.PlaceFault.{PlaceFault}
 use Rattle.place_reader.specs.declared.fault.PlaceFault.TheVariants as place
-use Rattle.place_reader.specs.Placements.{places_in}
-use Rattle.cts_engine.specs.declared.refusals.Refusal.{Refusal}
 use Rattle.cts_engine.specs.declared.refusals.Refusal.TheVariants as refusals
-use Rattle.cts_engine.specs.Accepted.{TellBoth, bench_refusal_of, tech_refusal_of, places_refusal_of, IsCircuitRefusal, IsRefusal}
 use Rattle.cts_engine.proofs.OneProblem.{table_accepted}
 
 module _ (netlist table : List ℕ) where

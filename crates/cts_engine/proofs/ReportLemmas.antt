@@ -1,24 +1,8 @@
 -- The times and the tree of a problem make its report.
-use Rattle.std.proofs.Common.{◌≡◌, ◌+◌, List, length, refl, sym, subst, ◌∙◌, arith}
-use Rattle.std.specs.List.{All}
-use Rattle.std.specs.Prelude.{Some, slice_get}
-use Rattle.cts_model.specs.declared.constraint.Constraint.{Constraint}
-use Rattle.cts_model.specs.declared.problem.Problem.{Problem}
-use Rattle.cts_model.specs.declared.report.Report.{Report}
+use Rattle.cts_engine.proofs.Vocabulary.{◌≡◌, ◌+◌, List, length, refl, sym, subst, ◌∙◌, arith, All, slice_get, Constraint, Problem, Report, Wire, embedding_of, grid_of, HasTimingBounds, HasTreeBounds, IsOfSize, ShowsAmong, root_of, source_of, least_for_schedule, length-sinks_of, offsets_are_skews, realised_meets, reaches_realise, reach_in, IsClockTree, AreTimes, HasLeastPeriod, sinks_in, source_in, IsReportWith}
+use Rattle.std.specs.Prelude.{Some}
 use Rattle.cts_model.specs.declared.report.Version.TheVariants.{Second}
-use Rattle.cts_model.specs.declared.tree.Wire.{Wire}
-use Rattle.cts_model.specs.tree.Embeddings.{embedding_of}
-use Rattle.cts_model.specs.tree.Problems.{grid_of}
 use Rattle.cts_model.specs.tree.RealisedSchedules.{RealisesSchedule}
-use Rattle.cts_model.specs.report.ReportBounds.{HasTimingBounds, HasTreeBounds, IsOfSize, ShowsAmong}
-use Rattle.cts_model.specs.tree.Topologies.{root_of, source_of}
-use Rattle.cts_model.proofs.SkewLemmas.{least_for_schedule, length-sinks_of, offsets_are_skews, realised_meets}
-use Rattle.cts_model.proofs.TreeLemmas.{reaches_realise}
-use Rattle.place_down.specs.Trees.{reach_in}
-use Rattle.cts_engine.specs.ClockTrees.{IsClockTree}
-use Rattle.cts_engine.specs.RegisterTimes.{AreTimes, HasLeastPeriod}
-use Rattle.cts_model.specs.report.Shown.{sinks_in, source_in}
-use Rattle.outcomes.specs.Syntheses.{IsReportWith}
 use Rattle.cts_engine.specs.declared.clock_tree.ClockTree.{ClockTree}
 use Rattle.cts_engine.specs.declared.times.Times.{Times}
 use Rattle.cts_engine.proofs.CycleLengths.{few_registers}

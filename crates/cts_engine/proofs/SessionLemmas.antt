@@ -1,28 +1,7 @@
 -- The session of a problem: what it stands for, and how large its grid is.
-use Rattle.std.proofs.Common.{◌≡◌, ◌<◌, ◌≤◌, ◌*◌, ◌^◌, ◌∙◌, ℕ, zero, suc, ℤ, pos, ◌*ℤ◌, to_z, of_z, List, [], ◌∷◌, length, slice_set, refl, ap, ap₂, sym, subst, arith}
-use Rattle.std.specs.Prelude.{nat_abs, unsigned_abs}
-use Rattle.std.proofs.lemmas.Int.{ints}
-use Rattle.std.proofs.lemmas.Nat.{mul-le}
-use Rattle.std.proofs.lemmas.List.{length-set}
-use mir.Syntax.{w128}
-use Rattle.cts_base.specs.declared.fraction.Fraction.{Fraction}
-use Rattle.cts_model.specs.declared.place.Point.{Point}
-use Rattle.cts_model.specs.declared.place.Uv.{Uv}
-use Rattle.cts_model.specs.declared.problem.Problem.{Problem}
-use Rattle.cts_model.specs.declared.schedule.Schedule.{Schedule}
-use Rattle.cts_model.specs.declared.tech.Tech.{Tech}
-use Rattle.cts_model.specs.declared.tree.Merge.{Merge}
-use Rattle.cts_model.specs.tree.GreedyMerges.{IsGreedy}
-use Rattle.cts_model.specs.placement.Points.{IsBelow, IsPointBelow, rotated}
-use Rattle.cts_model.specs.tree.Problems.{grid_of, on_grid, sink_of, sinks_of}
-use Rattle.cts_model.specs.timing.Schedules.{IsSmallPeriod}
-use Rattle.cts_model.specs.table.Tables.{IsWithin}
-use Rattle.cts_model.proofs.GridLemmas.{grid_size, number_read, product_size}
-use Rattle.cts_model.proofs.ScaleLemmas.{size_same}
-use Rattle.cts_model.proofs.SkewLemmas.{length-sinks_of}
+use Rattle.cts_engine.proofs.Vocabulary.{◌≡◌, ◌<◌, ◌≤◌, ◌*◌, ◌^◌, ◌∙◌, ℕ, zero, suc, ℤ, pos, ◌*ℤ◌, to_z, of_z, List, [], ◌∷◌, length, slice_set, refl, ap, ap₂, sym, subst, arith, nat_abs, unsigned_abs, ints, mul-le, length-set, w128, Fraction, Point, Uv, Problem, Schedule, Tech, Merge, IsGreedy, IsBelow, IsPointBelow, rotated, grid_of, on_grid, sink_of, sinks_of, IsSmallPeriod, IsWithin, grid_size, number_read, product_size, size_same, length-sinks_of, AreTimedSinks}
 use Rattle.move_session.specs.Sessions.{SessionState, StandsFor, moved_sinks}
 use Rattle.cts_engine.specs.SessionOutcomes.{IsSessionOf, StandsAt}
-use Rattle.cts_engine.specs.SinkOutcomes.{AreTimedSinks}
 use Rattle.cts_engine.specs.declared.sink_times.TimedSinks.{TimedSinks}
 
 -- a length unit has some grid steps, and not too many
@@ -48,8 +27,7 @@ grid_within period tech small =
 
 -- a session over a problem's timed sinks with their greedy merges is the problem's
 pub session_is : (problem : Problem) (timed : TimedSinks) (merges : List Merge)
-    (session : SessionState) (grid : ℤ) → AreTimedSinks problem timed
-    → IsGreedy timed.sinks merges
+    (session : SessionState) (grid : ℤ) → AreTimedSinks problem timed → IsGreedy timed.sinks merges
     → StandsFor timed.sinks merges
     (rotated (on_grid timed.period problem.tech problem.places.source)) session
     → session.renewals ≡ length merges → grid ≡ grid_of timed.period problem.tech
@@ -101,8 +79,7 @@ pub record IsKeptPlace (steps : ℤ) (at place : Point) : Type 0 where
 pub kept_place : (steps x y : ℤ) (at : Point) → unsigned_abs steps ≤ 100000000000
     → IsPointBelow 1000000000000001 at
     → x ≡ (to_z w128 (of_z w128 steps) *ℤ to_z w128 (of_z w128 at.x))
-    → y ≡ (to_z w128 (of_z w128 steps) *ℤ to_z w128 (of_z w128 at.y))
-    → IsKeptPlace steps at
+    → y ≡ (to_z w128 (of_z w128 steps) *ℤ to_z w128 (of_z w128 at.y)) → IsKeptPlace steps at
     (record { x = to_z w128 (of_z w128 x); y = to_z w128 (of_z w128 y) })
 kept_place steps x y at small near first second =
     let x_is = kept_product steps at.x x small near.x first in

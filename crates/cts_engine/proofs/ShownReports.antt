@@ -1,42 +1,10 @@
 -- The report of a problem shows what it says.
-use Rattle.std.proofs.Common.{◌≡◌, ◌⊎◌, ◌<◌, ◌-◌, ℕ, zero, suc, ℤ, ◌*ℤ◌, ◌≤ℤ◌, List, [], ◌∷◌, length, Bool, true, false, Option, Some, None, inl, inr, refl, sym, ap, subst, ◌∙◌, arith}
-use Rattle.std.specs.List.{All}
-use Rattle.std.specs.Prelude.{IfSome, IsSomeAnd, MatchBool, nat_le, slice_get}
+use Rattle.cts_engine.proofs.Vocabulary.{◌≡◌, ◌⊎◌, ◌<◌, ◌-◌, ℕ, zero, suc, ℤ, ◌*ℤ◌, ◌≤ℤ◌, List, [], ◌∷◌, length, Bool, true, false, Option, Some, None, inl, inr, refl, sym, ap, subst, ◌∙◌, arith, All, IfSome, IsSomeAnd, MatchBool, nat_le, slice_get, ints, IfSome_then, get_or_from_slice_get, slice_get_within, Fraction, Circuit, Constraint, PeriodShow, Cycle, Floor, Sink, Uv, Problem, Report, Lead, Zero, Tight, Tech, Merge, Show, Tree, ArePathsOf, ArePathsWithin, GivesWeight, IsConstraintOf, Embedding, embedding_of, IsLead, ShowsEarliest, lead_at, IsPeriodShow, rotated, AtEach, IsShown, IsShownLeast, IsShownTiming, IsShownTree, cycle_of, sinks_in, source_in, ShowsMerge, ShowsSource, IsTopology, numbers_below, root_of, size_same, wires_are_left, IsPlacedTree, reach_in, IsReportWith, IsSynthesis, ShowsSynthesis}
 use Rattle.std.proofs.Math.IntN.{*ℤ_comm}
-use Rattle.std.proofs.lemmas.Int.{ints}
-use Rattle.std.proofs.lemmas.Option.{IfSome_then, get_or_from_slice_get, slice_get_within}
-use Rattle.cts_base.specs.declared.fraction.Fraction.{Fraction}
-use Rattle.cts_model.specs.declared.circuit.Circuit.{Circuit}
-use Rattle.cts_model.specs.declared.constraint.Constraint.{Constraint}
-use Rattle.cts_model.specs.declared.period.PeriodShow.{PeriodShow}
-use Rattle.cts_model.specs.declared.period.PeriodShow.TheVariants.{Cycle, Floor}
-use Rattle.cts_model.specs.declared.place.Sink.{Sink}
-use Rattle.cts_model.specs.declared.place.Uv.{Uv}
-use Rattle.cts_model.specs.declared.problem.Problem.{Problem}
-use Rattle.cts_model.specs.declared.report.Report.{Report}
-use Rattle.cts_model.specs.declared.schedule.Lead.{Lead}
-use Rattle.cts_model.specs.declared.schedule.Lead.TheVariants.{Zero, Tight}
-use Rattle.cts_model.specs.declared.tech.Tech.{Tech}
-use Rattle.cts_model.specs.declared.tree.Merge.{Merge}
-use Rattle.cts_model.specs.declared.tree.Show.{Show}
 use Rattle.cts_model.specs.declared.tree.Topology.{Topology}
-use Rattle.cts_model.specs.declared.tree.Tree.{Tree}
-use Rattle.cts_model.specs.timing.ConstraintPaths.{ArePathsOf, ArePathsWithin, GivesWeight}
-use Rattle.cts_model.specs.timing.Constraints.{IsConstraintOf}
-use Rattle.cts_model.specs.tree.Embeddings.{Embedding, embedding_of}
 use Rattle.cts_model.specs.report.Judgements.{GivesPeriod, HasShape, HoldsTogether, IsGivenPath, IsOfCircuit, IsReachShown, IsSkewed}
-use Rattle.cts_model.specs.timing.Leads.{IsLead, ShowsEarliest, lead_at}
-use Rattle.cts_model.specs.timing.LeastPeriods.{IsPeriodShow}
-use Rattle.cts_model.specs.placement.Points.{rotated}
-use Rattle.cts_model.specs.report.Shown.{AtEach, IsShown, IsShownLeast, IsShownTiming, IsShownTree, cycle_of, sinks_in, source_in}
-use Rattle.cts_model.specs.tree.ShownReaches.{ShowsMerge, ShowsSource}
-use Rattle.cts_model.specs.tree.Topologies.{IsTopology, numbers_below, root_of}
 use Rattle.cts_model.proofs.RoundLemmas.{cycle_holds_together}
-use Rattle.cts_model.proofs.ScaleLemmas.{size_same}
 use Rattle.cts_model.proofs.ShownTrees.{scaled-once}
-use Rattle.cts_model.proofs.TreeLemmas.{wires_are_left}
-use Rattle.place_down.specs.Trees.{IsPlacedTree, reach_in}
-use Rattle.outcomes.specs.Syntheses.{IsReportWith, IsSynthesis, ShowsSynthesis}
 
 -- what holds of the value that is there, if any
 if_some : {X : Type 0} (found : Option X) {Holds : X → Type 0}
@@ -96,8 +64,7 @@ module _ (circuit : Circuit) (tech : Tech) where
           × ArePathsWithin circuit tech (room - length whole) cycle paths)
           ((path ≡ []) × ArePathsWithin circuit tech room cycle paths)
           → ((left : ℕ) → ArePathsWithin circuit tech left cycle paths
-          → IsGivenPath circuit tech cycle paths place)
-          → IsGivenPath circuit tech cycle paths place
+          → IsGivenPath circuit tech cycle paths place) → IsGivenPath circuit tech cycle paths place
       later true (same, within) given = given (room - length whole) within
       later false (none, within) given = given room within
 

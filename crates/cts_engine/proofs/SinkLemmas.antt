@@ -1,22 +1,5 @@
 -- The registers of a problem are sinks of a tree, and its source is a tree's.
-use Rattle.std.proofs.Common.{◌≡◌, ◌<◌, ◌≤◌, ◌+◌, ◌*◌, ◌^◌, ℕ, ℤ, pos, ◌+ℤ◌, ◌-ℤ◌, ◌*ℤ◌, neg_ℤ, List, length, get_or, sym, ap, subst, ◌∙◌, arith}
-use Rattle.std.specs.List.{All}
-use Rattle.std.specs.Prelude.{nat_abs}
-use Rattle.std.proofs.lemmas.Int.{ints}
-use Rattle.std.proofs.lemmas.Option.{get_or_from_slice_get}
-use Rattle.cts_base.specs.declared.fraction.Fraction.{Fraction}
-use Rattle.cts_model.specs.declared.place.Point.{Point}
-use Rattle.cts_model.specs.declared.tech.Tech.{Tech}
-use Rattle.cts_model.specs.placement.Points.{IsMultipleOf, IsPointBelow, IsUvBelow, IsUvMultipleOf, rotated}
-use Rattle.cts_model.specs.tree.Problems.{on_grid, scheduled_length, sink_of, sinks_of, steps_of_micro}
-use Rattle.cts_model.specs.timing.Schedules.{IsSmallPeriod, arrival_of}
-use Rattle.cts_model.specs.tree.Sinks.{AreTreeSinks, IsTreeSink}
-use Rattle.cts_model.specs.table.Tables.{IsWithin}
-use Rattle.cts_model.proofs.ScaleLemmas.{scale-finer, size_same}
-use Rattle.cts_model.proofs.SkewLemmas.{length-sinks_of, sink_at}
-use Rattle.place_down.specs.Trees.{IsTreeSource}
-use Rattle.cts_engine.specs.RegisterTimes.{AreTreeArrivals}
-use Rattle.cts_model.proofs.GridLemmas.{on_grid_below, scheduled_size}
+use Rattle.cts_engine.proofs.Vocabulary.{◌≡◌, ◌<◌, ◌≤◌, ◌+◌, ◌*◌, ◌^◌, ℕ, ℤ, pos, ◌+ℤ◌, ◌-ℤ◌, ◌*ℤ◌, neg_ℤ, List, length, get_or, sym, ap, subst, ◌∙◌, arith, All, nat_abs, ints, get_or_from_slice_get, Fraction, Point, Tech, IsMultipleOf, IsPointBelow, IsUvBelow, IsUvMultipleOf, rotated, on_grid, scheduled_length, sink_of, sinks_of, steps_of_micro, IsSmallPeriod, arrival_of, AreTreeSinks, IsTreeSink, IsWithin, scale-finer, size_same, length-sinks_of, sink_at, IsTreeSource, AreTreeArrivals, on_grid_below, scheduled_size}
 
 -- ---- plain numbers
 

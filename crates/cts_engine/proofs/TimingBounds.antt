@@ -1,27 +1,6 @@
 -- The times of a report are within its bounds and of its circuit's size.
-use Rattle.std.proofs.Common.{◌≡◌, ◌<◌, ◌≤◌, ◌^◌, ℕ, ℤ, pos, List, length, get_or, refl, sym, subst, arith}
-use Rattle.std.specs.List.{All}
-use Rattle.std.proofs.lemmas.Int.{ints}
-use Rattle.std.proofs.lemmas.List.{get_or_default}
-use Rattle.std.proofs.lemmas.List.Elements.{All-nil}
-use Rattle.cts_base.specs.declared.fraction.Fraction.{Fraction}
-use Rattle.cts_model.specs.declared.circuit.Circuit.{Circuit}
-use Rattle.cts_model.specs.declared.constraint.Constraint.{Constraint}
-use Rattle.cts_model.specs.declared.period.PeriodShow.{PeriodShow}
-use Rattle.cts_model.specs.declared.period.PeriodShow.TheVariants.{Cycle, Floor}
-use Rattle.cts_model.specs.declared.schedule.Lead.{Lead}
-use Rattle.cts_model.specs.declared.schedule.Lead.TheVariants.{Zero, Tight}
-use Rattle.cts_model.specs.declared.tech.Tech.{Tech}
-use Rattle.cts_model.specs.timing.ConstraintPaths.{ArePathsOf}
-use Rattle.cts_model.specs.timing.Constraints.{IsConstraintOf}
-use Rattle.cts_model.specs.timing.Leads.{EachLead, IsLead, depth_of, lead_at}
-use Rattle.cts_model.specs.timing.LeastPeriods.{IsPeriodShow}
-use Rattle.cts_model.specs.placement.Points.{IsBelow}
-use Rattle.cts_model.specs.report.ReportBounds.{HasSmallWeight, HasSmallWeights, IsSmallLead, LeadsAmong, ShowsPeriodAmong, cycle_length}
-use Rattle.cts_model.proofs.PathRegisters.{head_within, tail_within}
+use Rattle.cts_engine.proofs.Vocabulary.{◌≡◌, ◌<◌, ◌≤◌, ◌^◌, ℕ, ℤ, pos, List, length, get_or, refl, sym, subst, arith, All, ints, get_or_default, All-nil, Fraction, Circuit, Constraint, PeriodShow, Cycle, Floor, Lead, Zero, Tight, Tech, ArePathsOf, IsConstraintOf, EachLead, IsLead, depth_of, lead_at, IsPeriodShow, IsBelow, HasSmallWeight, HasSmallWeights, IsSmallLead, LeadsAmong, ShowsPeriodAmong, cycle_length, head_within, tail_within, HasSmallPairs, AreTreeArrivals}
 use Rattle.cts_engine.specs.CyclePaths.{IsShownBy}
-use Rattle.cts_engine.specs.PairConstraints.{HasSmallPairs}
-use Rattle.cts_engine.specs.RegisterTimes.{AreTreeArrivals}
 use Rattle.cts_engine.proofs.CycleLengths.{cycle_some, cycle_within, few_registers, plain_paths}
 use Rattle.cts_engine.proofs.DelayLemmas.{weight_small}
 
@@ -56,8 +35,7 @@ module _ {circuit : Circuit} {tech : Tech} (delays : HasSmallPairs circuit tech)
 
   -- so are their registers
   pub cycle_among : (period : Fraction) (shown : PeriodShow)
-      → IsPeriodShow circuit tech period shown
-      → ShowsPeriodAmong (length circuit.registers) shown
+      → IsPeriodShow circuit tech period shown → ShowsPeriodAmong (length circuit.registers) shown
   cycle_among period (Cycle cycle) critical = λ place default here.
       let is = critical.of_circuit place default here in
       record {

@@ -1,37 +1,7 @@
 -- The tree of a report is within its bounds and of its circuit's size.
-use Rattle.std.proofs.Common.{◌≡◌, ◌⊎◌, ◌<◌, ◌≤◌, ◌+◌, ◌*◌, ◌^◌, ℕ, ℤ, pos, ◌-ℤ◌, neg_ℤ, ◌≤ℤ◌, List, length, take, drop, get_or, Some, inl, inr, sym, ap, subst, ◌∙◌, arith}
-use Rattle.std.specs.List.{All}
+use Rattle.cts_engine.proofs.Vocabulary.{◌≡◌, ◌⊎◌, ◌<◌, ◌≤◌, ◌+◌, ◌*◌, ◌^◌, ℕ, ℤ, pos, ◌-ℤ◌, neg_ℤ, ◌≤ℤ◌, List, length, take, drop, get_or, Some, inl, inr, sym, ap, subst, ◌∙◌, arith, All, IfSome, slice_get, cases_lt, ints, clamps, get_or-drop, get_or-take, length-drop, length-take, get_or_from_slice_get, slice_get-get_or, slice_get_within, Fraction, Point, Sink, Uv, Tech, Merge, Show, Tree, Wire, embedding_of, IsGreedy, IsBelow, IsMultipleOf, IsPointBelow, IsUvBelow, IsUvMultipleOf, apart, distance, rotated, scheduled_length, sinks_of, IsMergeShow, IsSmallMerge, IsSmallWire, IsSourceShow, ShowsAmong, arrival_of, AreShown, AreShownBy, ShowsMerge, ShowsSource, IsParent, IsTopology, numbers_below, root_of, source_of, parent_above, parent_stands, distance-rotated, sink_at, first_made, second_made, some_and, AreTreeLists, HasTreeNumbers, AreDrawn, CanDraw}
 use Rattle.std.specs.Int.{int_max}
-use Rattle.std.specs.Prelude.{IfSome, slice_get}
-use Rattle.std.proofs.lemmas.Bool.{cases_lt}
-use Rattle.std.proofs.lemmas.Int.{ints, clamps}
-use Rattle.std.proofs.lemmas.List.{get_or-drop, get_or-take, length-drop, length-take}
-use Rattle.std.proofs.lemmas.Option.{get_or_from_slice_get, slice_get-get_or, slice_get_within}
-use Rattle.cts_base.specs.declared.fraction.Fraction.{Fraction}
-use Rattle.cts_model.specs.declared.place.Point.{Point}
-use Rattle.cts_model.specs.declared.place.Sink.{Sink}
-use Rattle.cts_model.specs.declared.place.Uv.{Uv}
-use Rattle.cts_model.specs.declared.tech.Tech.{Tech}
-use Rattle.cts_model.specs.declared.tree.Merge.{Merge}
-use Rattle.cts_model.specs.declared.tree.Show.{Show}
 use Rattle.cts_model.specs.declared.tree.Show.TheVariants as variants
-use Rattle.cts_model.specs.declared.tree.Tree.{Tree}
-use Rattle.cts_model.specs.declared.tree.Wire.{Wire}
-use Rattle.cts_model.specs.tree.Embeddings.{embedding_of}
-use Rattle.cts_model.specs.tree.GreedyMerges.{IsGreedy}
-use Rattle.cts_model.specs.placement.Points.{IsBelow, IsMultipleOf, IsPointBelow, IsUvBelow, IsUvMultipleOf, apart, distance, rotated}
-use Rattle.cts_model.specs.tree.Problems.{scheduled_length, sinks_of}
-use Rattle.cts_model.specs.report.ReportBounds.{IsMergeShow, IsSmallMerge, IsSmallWire, IsSourceShow, ShowsAmong}
-use Rattle.cts_model.specs.timing.Schedules.{arrival_of}
-use Rattle.cts_model.specs.tree.ShownReaches.{AreShown, AreShownBy, ShowsMerge, ShowsSource}
-use Rattle.cts_model.specs.tree.Topologies.{IsParent, IsTopology, numbers_below, root_of, source_of}
-use Rattle.cts_model.proofs.ParentLemmas.{parent_above, parent_stands}
-use Rattle.cts_model.proofs.PointLemmas.{distance-rotated}
-use Rattle.cts_model.proofs.SkewLemmas.{sink_at}
-use Rattle.cts_model.proofs.TopologyLemmas.{first_made, second_made, some_and}
-use Rattle.cts_engine.specs.ClockTrees.{AreTreeLists}
-use Rattle.place_down.specs.Trees.{HasTreeNumbers}
-use Rattle.cts_engine.specs.TreeParts.{AreDrawn, CanDraw}
 use Rattle.cts_engine.proofs.DrawLemmas.{root_parent}
 
 -- ---- plain points
@@ -238,8 +208,7 @@ module _ {sinks : List Sink} {merges : List Merge} {source : Uv} {reach : ℕ �
 pub sink_reaches : (period : Fraction) (tech : Tech) (places : List Point) (at : List ℤ)
     → (reach : ℕ → ℤ) → length places ≡ length at
     → ((register : ℕ) → IfSome (slice_get (sinks_of period tech places at) register)
-    (λ sink. reach register ≡ sink.offset))
-    → (register : ℕ) → register < length at
+    (λ sink. reach register ≡ sink.offset)) → (register : ℕ) → register < length at
     → reach register ≡ neg_ℤ (scheduled_length tech (arrival_of at register))
 sink_reaches period tech places at reach same of_sinks register here =
     subst (λ found. IfSome found (λ sink. reach register ≡ sink.offset))

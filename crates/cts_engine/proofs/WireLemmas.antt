@@ -1,19 +1,12 @@
 -- How far drawn wires go, and how long they are together.
-use Rattle.std.proofs.Common.{◌≡◌, ◌<◌, ◌-◌, ◌*◌, ◌^◌, ℕ, zero, suc, ℤ, pos, ◌+ℤ◌, ◌≤ℤ◌, ◌<ℤ◌, List, [], ◌∷◌, length, get_or, subst, arith}
-use Rattle.std.specs.List.{All}
-use Rattle.std.proofs.lemmas.Int.{ints, clamps}
-use Rattle.std.proofs.lemmas.Option.{get_or_from_slice_get}
-use Rattle.cts_model.specs.declared.place.Point.{Point}
+use Rattle.cts_engine.proofs.Vocabulary.{◌≡◌, ◌<◌, ◌-◌, ◌*◌, ◌^◌, ℕ, zero, suc, ℤ, pos, ◌+ℤ◌, ◌≤ℤ◌, ◌<ℤ◌, List, [], ◌∷◌, length, get_or, subst, arith, All, ints, clamps, get_or_from_slice_get, Point, IsBelow, IsPointBelow, distance, distance_by_way, distance-itself}
 use Rattle.cts_model.specs.tree.DrawnWires.{IsDrawn, pieces, total}
-use Rattle.cts_model.specs.placement.Points.{IsBelow, IsPointBelow, distance}
-use Rattle.cts_model.proofs.PointLemmas.{distance_by_way, distance-itself}
 
 -- ---- points of a wire
 
 -- the way to a point of a wire and on to its end is no longer than the wire
 way_through : (first : Point) (more : List Point) (place : ℕ) (default : Point)
-    → place < length (first ∷ more)
-    → (distance first (get_or (first ∷ more) place default)
+    → place < length (first ∷ more) → (distance first (get_or (first ∷ more) place default)
     +ℤ distance (get_or (first ∷ more) place default)
     (get_or (first ∷ more) (length more) default)) ≤ℤ total (pieces (first ∷ more))
 way_through first [] zero default here =

@@ -1,20 +1,6 @@
 -- The constraints of a circuit beside the inequalities of its paths, and what cycles of them show.
-use Rattle.std.proofs.Common.{◌≡◌, ℕ, ◌+◌, ◌*◌, ◌≤◌, Bool, true, false, ℤ, pos, ◌+ℤ◌, ◌-ℤ◌, ◌*ℤ◌, ◌≤ℤ◌, ◌<ℤ◌, List, ap, arith}
-use Rattle.std.specs.Prelude.{MatchBool, nat_abs}
-use Rattle.std.specs.List.{All}
-use Rattle.std.proofs.lemmas.Int.{ints}
-use Rattle.std.proofs.lemmas.List.Elements.{All-weaker, All-contains_itself}
-use Rattle.cts_base.specs.declared.fraction.Fraction.{Fraction}
-use Rattle.cts_model.specs.declared.circuit.Circuit.{Circuit}
-use Rattle.cts_model.specs.declared.tech.Tech.{Tech}
-use Rattle.cts_model.specs.declared.constraint.Constraint.{Constraint}
-use Rattle.cts_model.specs.timing.Delays.{least_delay, greatest_delay}
-use Rattle.cts_model.specs.timing.Timing.{MeetsSetup, MeetsHold, Meets, IsAdmitted}
-use Rattle.cts_model.specs.timing.Constraints.{IsSatisfied, Satisfies, IsSetupConstraint, IsHoldConstraint, IsConstraintOf}
-use Rattle.cts_model.specs.timing.Cycles.{ShowsPeriod}
-use Rattle.cts_model.specs.timing.LeastPeriods.{IsCritical, IsForbidding, HasNoPeriod}
+use Rattle.cts_model.proofs.Vocabulary.{◌≡◌, ℕ, ◌+◌, ◌*◌, ◌≤◌, Bool, true, false, ℤ, pos, ◌+ℤ◌, ◌-ℤ◌, ◌*ℤ◌, ◌≤ℤ◌, ◌<ℤ◌, List, ap, arith, MatchBool, nat_abs, All, ints, All-weaker, All-contains_itself, Fraction, Circuit, Tech, Constraint, least_delay, greatest_delay, MeetsSetup, MeetsHold, Meets, IsAdmitted, IsSatisfied, Satisfies, IsSetupConstraint, IsHoldConstraint, IsConstraintOf, ShowsPeriod, IsCritical, IsForbidding, HasNoPeriod, up, down}
 use Rattle.cts_model.proofs.CycleLemmas.{shown_period_is_least, forbidden_at_all}
-use borrow.Author.Differences.{up, down}
 
 -- what a path with the greatest delay asks, the setup constraint of that weight asks
 setup_asked : (scale : ℕ) (launch capture greatest setup weight period : ℤ)
@@ -37,8 +23,7 @@ module _ (circuit : Circuit) (tech : Tech) (scale : ℕ) (period : ℤ) (arrival
   -- arrivals that meet a period satisfy a constraint of either kind
   met_either : (setup : Bool) (tail head : ℕ) (weight : ℤ)
       → MatchBool setup (IsSetupConstraint circuit tech tail head weight)
-      (IsHoldConstraint circuit tech head tail weight)
-      → IsSatisfied scale period arrival
+      (IsHoldConstraint circuit tech head tail weight) → IsSatisfied scale period arrival
       (record { setup = setup; tail = tail; head = head; weight = weight })
   met_either true tail head weight its = setup_asked scale (arrival tail) (arrival head)
       (greatest_delay circuit tech its.path) tech.setup weight period its.weight_is

@@ -1,12 +1,5 @@
 -- What a circuit's registers are: signals that are registers.
-use Rattle.std.proofs.Common.{ℕ, zero, suc, ◌≡◌, ◌<◌, ◌+◌, Bool, true, false, List, [], ◌∷◌, length, Some, refl, ap, sym, ◌∙◌, subst, arith, get_or}
-use Rattle.std.specs.List.{filter_map, enumerate_from, slice_get}
-use Rattle.std.proofs.lemmas.Option.{slice_get-get_or, get_or_from_slice_get}
-use Rattle.cts_model.specs.declared.signal.Signal.{Signal}
-use Rattle.cts_model.specs.declared.circuit.Circuit.{Circuit}
-use Rattle.cts_model.specs.netlist.Kinds.{is_register}
-use Rattle.cts_model.specs.netlist.Circuits.{register_number}
-use Rattle.cts_model.specs.netlist.Paths.{register_signal}
+use Rattle.cts_model.proofs.Vocabulary.{ℕ, zero, suc, ◌≡◌, ◌<◌, ◌+◌, Bool, true, false, List, [], ◌∷◌, length, Some, refl, ap, sym, ◌∙◌, subst, arith, get_or, filter_map, enumerate_from, slice_get, slice_get-get_or, get_or_from_slice_get, Signal, Circuit, is_register, register_number, register_signal}
 
 -- the signal of this number is a register
 pub record IsRegisterAt (signals : List Signal) (number : ℕ) : Type 0 where

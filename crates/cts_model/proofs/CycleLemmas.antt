@@ -1,14 +1,5 @@
 -- The sum of constraints round a cycle, and what it leaves of the periods.
-use Rattle.std.proofs.Common.{◌≡◌, ℕ, ◌+◌, ◌*◌, ◌≤◌, ℤ, pos, ◌+ℤ◌, ◌*ℤ◌, ◌≤ℤ◌, ◌<ℤ◌, List, [], ◌∷◌, ap, arith}
-use Rattle.std.specs.List.{All, Contains}
-use Rattle.std.proofs.Math.Nat.{mul-le-mul_left}
-use Rattle.std.proofs.lemmas.Int.{ints}
-use Rattle.std.proofs.lemmas.List.Elements.{All-head, All-tail, All-weaker, All-contains}
-use Rattle.std.proofs.lemmas.List.Sums.{sum_by-cons}
-use Rattle.cts_model.specs.declared.constraint.Constraint.{Constraint}
-use Rattle.cts_model.specs.timing.Constraints.{count_of, IsSatisfied, Satisfies}
-use Rattle.cts_model.specs.timing.Cycles.{Leads, IsCycle, total_weight, total_count, ShowsPeriod, ForbidsPeriods}
-use borrow.Author.Differences.{up, down}
+use Rattle.cts_model.proofs.Vocabulary.{◌≡◌, ℕ, ◌+◌, ◌*◌, ◌≤◌, ℤ, pos, ◌+ℤ◌, ◌*ℤ◌, ◌≤ℤ◌, ◌<ℤ◌, List, [], ◌∷◌, ap, arith, All, Contains, mul-le-mul_left, ints, All-head, All-tail, All-weaker, All-contains, sum_by-cons, Constraint, count_of, IsSatisfied, Satisfies, Leads, IsCycle, total_weight, total_count, ShowsPeriod, ForbidsPeriods, up, down}
 
 -- what a constraint asks of its tail and its head, and others of its head and of where they lead,
 -- they ask together of its tail and of where they lead

@@ -1,11 +1,6 @@
 -- The rows of a delay table.
-use Rattle.std.proofs.Common.{ℕ, pos, List, length, get_or, All, inl, inr, refl, sym, subst, arith}
-use Rattle.std.proofs.lemmas.Bool.{cases_lt}
-use Rattle.std.proofs.lemmas.List.{get_or_past}
-use Rattle.std.proofs.lemmas.Int.{ints}
-use Rattle.cts_model.specs.declared.tech.GateDelay.{GateDelay}
-use Rattle.cts_model.specs.timing.Delays.{no_delay}
-use Rattle.cts_model.specs.table.Tables.{IsGateDelay, IsWithin}
+use Rattle.cts_model.proofs.Vocabulary.{ℕ, pos, List, length, get_or, inl, inr, refl, sym, subst, arith, cases_lt, get_or_past, ints, GateDelay, no_delay, IsGateDelay, IsWithin}
+use Rattle.std.proofs.Common.{All}
 
 -- a row of no gates has the facts of every row
 no_delay_valid : IsGateDelay no_delay

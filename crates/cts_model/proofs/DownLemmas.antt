@@ -1,12 +1,6 @@
 -- Ways down a tree, and the reaches of its nodes by them.
-use Rattle.std.proofs.Common.{◌≡◌, ℕ, ◌<◌, ◌+◌, ℤ, ◌+ℤ◌, List, [], ◌∷◌, length, Some, inl, inr, refl, ap, subst, ◌∙◌, arith}
-use Rattle.std.specs.Prelude.{IfSome, slice_get}
-use Rattle.std.proofs.lemmas.Int.{ints}
-use Rattle.std.proofs.lemmas.Option.{slice_get_cases}
-use Rattle.cts_model.specs.declared.place.Sink.{Sink}
-use Rattle.cts_model.specs.declared.tree.Merge.{Merge}
-use Rattle.cts_model.specs.tree.ShownReaches.{AreReaches}
-use Rattle.cts_model.specs.tree.Topologies.{IsTopology}
+use Rattle.cts_model.proofs.Vocabulary.{◌≡◌, ℕ, ◌<◌, ◌+◌, ℤ, ◌+ℤ◌, List, [], ◌∷◌, length, Some, inl, inr, refl, ap, subst, ◌∙◌, arith, IfSome, ints, slice_get_cases, Sink, Merge, AreReaches, IsTopology}
+use Rattle.std.specs.Prelude.{slice_get}
 use Rattle.cts_model.specs.tree.WaysDown.{IsReachDown, LeadsDown, wire_along}
 use Rattle.cts_model.proofs.ParentLemmas.{made_parent, parent_above, parent_stands}
 use Rattle.cts_model.proofs.TopologyLemmas.{of_made}

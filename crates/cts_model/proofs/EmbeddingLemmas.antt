@@ -1,20 +1,5 @@
 -- How low the reaches of nodes can be in any embedding that realises the offsets.
-use Rattle.std.proofs.Common.{◌≡◌, ℕ, zero, suc, ◌<◌, ◌≤◌, ◌+◌, ℤ, pos, ◌+ℤ◌, ◌-ℤ◌, ◌*ℤ◌, ◌≤ℤ◌, List, [], ◌∷◌, length, Some, inl, inr, refl, sym, ap, subst, ◌∙◌, arith}
-use Rattle.std.specs.Prelude.{IfSome}
-use Rattle.std.specs.List.{slice_get, Contains}
-use Rattle.std.proofs.lemmas.Bool.{cases_lt}
-use Rattle.std.proofs.lemmas.Int.{ints}
-use Rattle.std.proofs.lemmas.List.Elements.{Contains-append_cases}
-use Rattle.std.proofs.lemmas.Option.{slice_get_within}
-use Rattle.cts_model.specs.declared.place.Point.{Point}
-use Rattle.cts_model.specs.declared.place.Sink.{Sink}
-use Rattle.cts_model.specs.declared.place.Uv.{Uv}
-use Rattle.cts_model.specs.declared.tree.Merge.{Merge}
-use Rattle.cts_model.specs.tree.Embeddings.{Embedding, IsEmbedding, RealisesOffsets}
-use Rattle.cts_model.specs.placement.Points.{distance, rotated_distance, rotated, scaled}
-use Rattle.cts_model.specs.tree.Regions.{span}
-use Rattle.cts_model.specs.tree.ShownReaches.{AreReaches}
-use Rattle.cts_model.specs.tree.Topologies.{IsTopology, IsParent, numbers_below, root_of, source_of}
+use Rattle.cts_model.proofs.Vocabulary.{◌≡◌, ℕ, zero, suc, ◌<◌, ◌≤◌, ◌+◌, ℤ, pos, ◌+ℤ◌, ◌-ℤ◌, ◌*ℤ◌, ◌≤ℤ◌, List, [], ◌∷◌, length, Some, inl, inr, refl, sym, ap, subst, ◌∙◌, arith, IfSome, slice_get, Contains, cases_lt, ints, Contains-append_cases, slice_get_within, Point, Sink, Uv, Merge, Embedding, IsEmbedding, RealisesOffsets, distance, rotated_distance, rotated, scaled, span, AreReaches, IsTopology, IsParent, numbers_below, root_of, source_of}
 use Rattle.cts_model.proofs.ParentLemmas.{made_parent, has_parent, parent_above, parent_stands}
 use Rattle.cts_model.proofs.PointLemmas.{distance_by_way, distance_either, distance_from_zero, distance-itself, distance-rotated}
 use Rattle.cts_model.proofs.ScaleLemmas.{scale-add, scale-distance}
@@ -133,8 +118,7 @@ module _ {scale : ℕ} {sinks : List Sink} {merges : List Merge} {source : Uv} {
 
   -- two points that stand at given ones are as far apart as those
   stand_apart : (one other : Point) (at to : Uv) → rotated one ≡ scaled scale at
-      → rotated other ≡ scaled scale to
-      → distance one other ≡ pos scale *ℤ rotated_distance at to
+      → rotated other ≡ scaled scale to → distance one other ≡ pos scale *ℤ rotated_distance at to
   stand_apart one other at to here there =
       distance-rotated one other
       ∙ ap (λ uv. rotated_distance uv (rotated other)) here

@@ -1,9 +1,5 @@
 -- The entries of lines, where one more comes.
-use Rattle.std.proofs.Common.{◌≡◌, ℕ, true, List, [], ◌∷◌, ◌++◌, map, refl, ap, ◌∙◌, arith, append-nil}
-use Rattle.std.specs.List.{filter}
-use Rattle.std.proofs.lemmas.Bool.Decides.{nat_tests}
-use Rattle.std.proofs.lemmas.List.{map-append, map_push}
-use Rattle.std.proofs.lemmas.List.Elements.{filter-append}
+use Rattle.cts_model.proofs.Vocabulary.{◌≡◌, ℕ, true, List, [], ◌∷◌, ◌++◌, map, refl, ap, ◌∙◌, arith, append-nil, filter, nat_tests, map-append, map_push, filter-append}
 use Rattle.cts_model.specs.text.Entries.{entries_in, has_words, words_in}
 
 -- a blank line has no entry

@@ -1,15 +1,5 @@
 -- How large the numbers of a tree's grid are, and its sinks one by one.
-use Rattle.std.proofs.Common.{◌≡◌, ◌≤◌, ◌<◌, ◌+◌, ◌*◌, ◌^◌, ℕ, zero, suc, ℤ, pos, ◌-ℤ◌, ◌*ℤ◌, neg_ℤ, to_z, of_z, List, [], ◌∷◌, ◌++◌, length, take, get_or, refl, ap, ◌∙◌, arith}
-use Rattle.std.specs.Prelude.{unsigned_abs}
-use mir.Syntax.{w128}
-use Rattle.std.proofs.lemmas.Int.{ints, unsigned_abs-mul}
-use Rattle.std.proofs.lemmas.Nat.{mul-le}
-use Rattle.cts_base.specs.declared.fraction.Fraction.{Fraction}
-use Rattle.cts_model.specs.declared.place.Point.{Point}
-use Rattle.cts_model.specs.declared.tech.Tech.{Tech}
-use Rattle.cts_model.specs.placement.Points.{IsBelow, IsPointBelow}
-use Rattle.cts_model.specs.tree.Problems.{grid_of, on_grid, scheduled_length, sink_of, sinks_of, steps_of_micro}
-use Rattle.cts_model.specs.timing.Schedules.{IsSmallPeriod}
+use Rattle.cts_model.proofs.Vocabulary.{◌≡◌, ◌≤◌, ◌<◌, ◌+◌, ◌*◌, ◌^◌, ℕ, zero, suc, ℤ, pos, ◌-ℤ◌, ◌*ℤ◌, neg_ℤ, to_z, of_z, List, [], ◌∷◌, ◌++◌, length, take, get_or, refl, ap, ◌∙◌, arith, unsigned_abs, w128, ints, unsigned_abs-mul, mul-le, Fraction, Point, Tech, IsBelow, IsPointBelow, grid_of, on_grid, scheduled_length, sink_of, sinks_of, steps_of_micro, IsSmallPeriod}
 
 -- a product is no larger than the product of the sizes
 pub product_size : (a b : ℤ) (first second : ℕ) → unsigned_abs a ≤ first

@@ -1,21 +1,8 @@
 -- A circuit with the host keeps what a circuit is to keep.
-use Rattle.std.proofs.Common.{◌≡◌, ◌≢◌, ℕ, ◌<◌, Bool, true, false, ◌&&◌, List, [], ◌∷◌, ◌++◌, length, All, Some, IsTrue, get_or, inl, inr, refl, sym, ap, ◌∙◌, subst, arith, true≢false}
-use Rattle.std.specs.List.{slice_get}
-use Rattle.std.proofs.lemmas.Bool.{cases_lt}
-use Rattle.std.proofs.Math.ListN.{get_or-append}
-use Rattle.std.proofs.Math.Seq.{get_or-append_seam}
-use Rattle.std.proofs.lemmas.List.{length_push}
-use Rattle.std.proofs.lemmas.List.Elements.{All-push, All-weaker}
-use Rattle.std.proofs.lemmas.List.Folds.{list_any-append, list_any_at}
+use Rattle.cts_model.proofs.Vocabulary.{◌≡◌, ◌≢◌, ℕ, ◌<◌, Bool, true, false, List, [], ◌∷◌, ◌++◌, length, Some, IsTrue, get_or, inl, inr, refl, sym, ap, ◌∙◌, subst, arith, true≢false, slice_get, cases_lt, get_or-append, get_or-append_seam, length_push, All-push, All-weaker, list_any-append, list_any_at, sum_by_push, slice_get_within, get_or_from_slice_get, Signal, Circuit, is_host, is_valid, IsCircuit, IsHost, gate_inputs, has_host, host_name, host_signal, is_named, HasNoHost}
+use Rattle.std.proofs.Common.{◌&&◌, All}
 use Rattle.std.proofs.lemmas.List.Quantifiers.{all_pairs_push}
-use Rattle.std.proofs.lemmas.List.Sums.{sum_by_push}
-use Rattle.std.proofs.lemmas.Option.{slice_get_within, get_or_from_slice_get}
-use Rattle.cts_model.specs.declared.signal.Signal.{Signal}
-use Rattle.cts_model.specs.declared.circuit.Circuit.{Circuit}
-use Rattle.cts_model.specs.netlist.Kinds.{is_host, is_valid}
 use Rattle.cts_model.specs.text.Names.{is_name, is_short}
-use Rattle.cts_model.specs.netlist.Circuits.{IsCircuit, IsHost, gate_inputs, has_host, host_name, host_signal, is_named}
-use Rattle.cts_model.specs.netlist.Hosts.{HasNoHost}
 use Rattle.cts_model.proofs.RegisterLists.{registers_push_some}
 
 -- where no signal is the host, none at any place is

@@ -1,10 +1,5 @@
 -- The eight gate kinds, one after the other.
-use Rattle.std.proofs.Common.{◌≡◌, ◌↔◌, Bool, false, IsTrue, List, [], ◌∷◌, Any, refl, get_or}
-use Rattle.cts_model.specs.declared.kind.Kind.{Kind}
-use Rattle.cts_model.specs.declared.kind.Kind.TheVariants.{And, Nand, Or, Nor, Not, Xor, Xnor, Buff, Input, Dff, Host}
-use Rattle.cts_model.specs.declared.signal.Signal.{Signal}
-use Rattle.cts_model.specs.netlist.Kinds.{is_gate, place_of}
-use Rattle.cts_model.specs.netlist.UsedKinds.{AreUsedKinds}
+use Rattle.cts_model.proofs.Vocabulary.{◌≡◌, ◌↔◌, Bool, false, IsTrue, List, [], ◌∷◌, Any, refl, get_or, Kind, And, Nand, Or, Nor, Not, Xor, Xnor, Buff, Input, Dff, Host, Signal, is_gate, place_of, AreUsedKinds}
 
 -- some signal has the kind
 abbrev Uses : List Signal → Kind → Type 0

@@ -1,17 +1,8 @@
 -- Along leads, whose constraints are tight, no arrivals that meet the period are earlier.
-use Rattle.std.proofs.Common.{◌≡◌, ℕ, zero, suc, ◌<◌, ◌≤◌, ◌+◌, ◌*◌, ℤ, pos, ◌+ℤ◌, ◌-ℤ◌, ◌*ℤ◌, ◌≤ℤ◌, List, length, sym, ap, subst, arith}
-use Rattle.std.specs.Prelude.{nat_abs}
-use Rattle.std.proofs.lemmas.Int.{ints}
-use Rattle.std.proofs.Math.IntN.{*ℤ-zero}
-use Rattle.cts_base.specs.declared.fraction.Fraction.{Fraction}
-use Rattle.cts_model.specs.declared.circuit.Circuit.{Circuit}
-use Rattle.cts_model.specs.declared.tech.Tech.{Tech}
+use Rattle.cts_model.proofs.Vocabulary.{◌≡◌, ℕ, zero, suc, ◌<◌, ◌≤◌, ◌+◌, ◌*◌, ℤ, pos, ◌+ℤ◌, ◌-ℤ◌, ◌*ℤ◌, ◌≤ℤ◌, List, length, sym, ap, subst, arith, nat_abs, ints, *ℤ-zero, Fraction, Circuit, Tech, IsConstraintOf, count_of, arrival_of, AreFromZero, AreLeastArrivals, Meets}
 use Rattle.cts_model.specs.declared.schedule.Lead.{Lead}
 use Rattle.cts_model.specs.declared.schedule.Lead.TheVariants.{Zero, Tight}
-use Rattle.cts_model.specs.timing.Constraints.{IsConstraintOf, count_of}
 use Rattle.cts_model.specs.timing.Leads.{ShowsEarliest, EachShowsEarliest, depth_of, lead_at}
-use Rattle.cts_model.specs.timing.Schedules.{arrival_of, AreFromZero, AreLeastArrivals}
-use Rattle.cts_model.specs.timing.Timing.{Meets}
 use Rattle.cts_model.proofs.CircuitConstraints.{met_constraint}
 use Rattle.cts_model.proofs.PathRegisters.{tail_within}
 use Rattle.cts_model.proofs.ScaleLemmas.{size_same, scale-sub, scale-finer, scale-product}
@@ -44,8 +35,7 @@ module _ (circuit : Circuit) (tech : Tech) (period : Fraction) (at : List ℤ) (
   low_by_lead : (register : ℕ) → register < length at → (lead : Lead)
       → ShowsEarliest (IsConstraintOf circuit tech) period at leads register lead
       → ((tail : ℕ) → tail < length at → 1 + depth_of (lead_at leads tail) ≤ depth_of lead
-      → IsLow times at other tail)
-      → IsLow times at other register
+      → IsLow times at other tail) → IsLow times at other register
   low_by_lead register within Zero at_zero fewer =
       let none = ap (λ z. pos times *ℤ z) at_zero in
       omega (arith, ints, *ℤ-zero (pos times), from_zero register within)

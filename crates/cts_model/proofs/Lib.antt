@@ -1,3 +1,4 @@
+mod Vocabulary
 pub mod CircuitConstraints
 pub mod CircuitLemmas
 pub mod CycleLemmas

@@ -1,12 +1,5 @@
 -- Marks of the nodes that merges join, where one more merge comes.
-use Rattle.std.proofs.Common.{◌≡◌, ◌⊎◌, ◌<◌, ◌↔◌, ℕ, Bool, true, false, List, [], ◌∷◌, ◌++◌, length, get_or, set, inl, inr, sym, ap, subst, ◌∙◌, arith, length-append}
-use Rattle.std.specs.List.{All}
-use Rattle.std.proofs.lemmas.Bool.{cases_eq, false≢true}
-use Rattle.std.proofs.lemmas.List.{get_or-set_same, get_or-set_other, length-set}
-use Rattle.std.proofs.lemmas.List.Elements.{All-append, All-cons, All-nil}
-use Rattle.std.proofs.Math.Seq.{get_or-append_seam}
-use Rattle.std.proofs.Math.ListN.{get_or-append}
-use Rattle.cts_model.specs.declared.tree.Merge.{Merge}
+use Rattle.cts_model.proofs.Vocabulary.{◌≡◌, ◌⊎◌, ◌<◌, ◌↔◌, ℕ, Bool, true, false, List, [], ◌∷◌, ◌++◌, length, get_or, set, inl, inr, sym, ap, subst, ◌∙◌, arith, length-append, All, cases_eq, false≢true, get_or-set_same, get_or-set_other, length-set, All-append, All-cons, All-nil, get_or-append_seam, get_or-append, Merge}
 use Rattle.cts_model.specs.tree.Marks.{AreMarked, IsUnjoined}
 
 module _ {X : Type 0} (P : X → Type 0) (earlier : List X) (last : X) where

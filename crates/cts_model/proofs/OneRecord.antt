@@ -1,15 +1,6 @@
 -- Circuits, tables and lists of used kinds with the same parts are one.
-use Rattle.std.proofs.Common.{ℕ, ◌≡◌, ◌<◌, ◌↔◌, zero, suc, List, [], ◌∷◌, length, get_or, Bool, true, false, IsTrue, refl, ap, sym, ◌∙◌, subst, ℤ, arith}
+use Rattle.cts_model.proofs.Vocabulary.{ℕ, ◌≡◌, ◌<◌, ◌↔◌, zero, suc, List, [], ◌∷◌, length, get_or, Bool, true, false, IsTrue, refl, ap, sym, ◌∙◌, subst, ℤ, arith, same_lists, And, Nand, Or, Nor, Not, Xor, Xnor, Buff, Signal, Circuit, GateDelay, Tech, IsCircuit, IsTable, AreUsedKinds}
 use Rattle.std.proofs.Props.{props}
-use Rattle.std.proofs.lemmas.List.{same_lists}
-use Rattle.cts_model.specs.declared.kind.Kind.TheVariants.{And, Nand, Or, Nor, Not, Xor, Xnor, Buff}
-use Rattle.cts_model.specs.declared.signal.Signal.{Signal}
-use Rattle.cts_model.specs.declared.circuit.Circuit.{Circuit}
-use Rattle.cts_model.specs.declared.tech.GateDelay.{GateDelay}
-use Rattle.cts_model.specs.declared.tech.Tech.{Tech}
-use Rattle.cts_model.specs.netlist.Circuits.{IsCircuit}
-use Rattle.cts_model.specs.table.Tables.{IsTable}
-use Rattle.cts_model.specs.netlist.UsedKinds.{AreUsedKinds}
 
 -- ---- circuits
 

@@ -1,10 +1,5 @@
 -- Lists of pairs in their order, by the register that launches and then by the one that captures.
-use Rattle.std.proofs.Common.{ℕ, ◌≡◌, ◌<◌, List, length, get_or, sym, ◌∙◌, ap, arith, inl, inr}
-use Rattle.std.proofs.lemmas.Bool.{cases_lt}
-use Rattle.std.proofs.lemmas.List.{get_or_default}
-use Rattle.cts_model.specs.declared.timing.PairDelay.{PairDelay}
-use Rattle.cts_model.specs.timing.EqualArrivals.{ComesBefore}
-use Rattle.cts_model.specs.timing.PairLists.{AreOrdered}
+use Rattle.cts_model.proofs.Vocabulary.{ℕ, ◌≡◌, ◌<◌, List, length, get_or, sym, ◌∙◌, ap, arith, inl, inr, cases_lt, get_or_default, PairDelay, ComesBefore, AreOrdered}
 
 -- no pair comes before another that comes before it
 no_circle : (from to from' to' : ℕ) → ComesBefore from to from' to' → ComesBefore from' to' from to

@@ -1,14 +1,5 @@
 -- The one parent of each node of a topology, and sums over all nodes taken merge by merge.
-use Rattle.std.proofs.Common.{◌≡◌, ◌≢◌, ℕ, zero, suc, ◌<◌, ◌≤◌, ◌+◌, ℤ, pos, ◌+ℤ◌, ◌≤ℤ◌, List, [], length, take, get_or, Some, inl, inr, refl, sym, ap, subst, ◌∙◌, arith}
-use Rattle.std.specs.Prelude.{IsSomeAnd}
-use Rattle.std.specs.List.{slice_get}
-use Rattle.std.proofs.lemmas.Bool.{cases_lt}
-use Rattle.std.proofs.lemmas.Int.{ints}
-use Rattle.std.proofs.lemmas.List.{get_or-take, length-take}
-use Rattle.std.proofs.lemmas.Option.{slice_get_within, get_or_from_slice_get}
-use Rattle.cts_model.specs.declared.tree.Merge.{Merge}
-use Rattle.cts_model.specs.tree.Embeddings.{total_length}
-use Rattle.cts_model.specs.tree.Topologies.{IsTopology, IsLive, IsMerge, IsParent, Joins, root_of, source_of}
+use Rattle.cts_model.proofs.Vocabulary.{◌≡◌, ◌≢◌, ℕ, zero, suc, ◌<◌, ◌≤◌, ◌+◌, ℤ, pos, ◌+ℤ◌, ◌≤ℤ◌, List, [], length, take, get_or, Some, inl, inr, refl, sym, ap, subst, ◌∙◌, arith, IsSomeAnd, slice_get, cases_lt, ints, get_or-take, length-take, slice_get_within, get_or_from_slice_get, Merge, total_length, IsTopology, IsLive, IsMerge, IsParent, Joins, root_of, source_of}
 use Rattle.cts_model.proofs.TotalLemmas.{all_zero, all_nothing, all_ones}
 use Rattle.cts_model.proofs.TopologyLemmas.{some_and, merge_at, merge_here, EachMerge, first_made, second_made}
 use Rattle.cts_model.proofs.WithoutLemmas.{without_both, without_both-joined, without_both-nothing, nothing_without_both, without_both-other, without_both-from_zero, total_length-without_both}
@@ -201,8 +192,7 @@ module _ {sinks : ℕ} {merges : List Merge} (topology : IsTopology sinks merges
 
   -- so the merge that joins a node is one
   joined_once : (place other node : ℕ) → place < length merges → other < length merges
-      → Joins (merge_at merges place) node → Joins (merge_at merges other) node
-      → place ≡ other
+      → Joins (merge_at merges place) node → Joins (merge_at merges other) node → place ≡ other
   joined_once place other node within also_within joins also = elim (cases_lt place other) [
     | inl before ↦ absurd (joined_twice place other node before also_within joins also)
     | inr not_before ↦ elim (cases_lt other place) [

@@ -1,19 +1,6 @@
 -- The registers that paths join, and that listed pairs and constraints name.
-use Rattle.std.proofs.Common.{◌≡◌, ◌<◌, ℕ, ℤ, Bool, true, false, List, [], ◌∷◌, length, Option, Some, None, IsSomeAnd, refl}
-use Rattle.std.specs.Prelude.{MatchBool}
-use Rattle.std.specs.List.{All, slice_get}
-use Rattle.std.specs.Option.{option_and_then}
-use Rattle.std.proofs.lemmas.List.Elements.{All-weaker}
-use Rattle.std.proofs.lemmas.Option.{slice_get_within}
-use Rattle.cts_model.specs.declared.signal.Signal.{Signal}
-use Rattle.cts_model.specs.declared.circuit.Circuit.{Circuit}
-use Rattle.cts_model.specs.declared.constraint.Constraint.{Constraint}
-use Rattle.cts_model.specs.declared.tech.Tech.{Tech}
-use Rattle.cts_model.specs.declared.timing.PairDelay.{PairDelay}
-use Rattle.cts_model.specs.netlist.Paths.{register_signal, IsPath}
-use Rattle.cts_model.specs.timing.Constraints.{IsSetupConstraint, IsHoldConstraint, IsConstraintOf}
-use Rattle.cts_model.specs.timing.EqualArrivals.{IsPairDelay}
-use Rattle.cts_model.specs.timing.PairLists.{ListsPairs}
+use Rattle.cts_model.proofs.Vocabulary.{◌≡◌, ◌<◌, ℕ, ℤ, Bool, true, false, List, [], ◌∷◌, length, Option, Some, None, refl, MatchBool, All, slice_get, option_and_then, All-weaker, slice_get_within, Signal, Circuit, Constraint, Tech, PairDelay, register_signal, IsPath, IsSetupConstraint, IsHoldConstraint, IsConstraintOf, IsPairDelay, ListsPairs}
+use Rattle.std.proofs.Common.{IsSomeAnd}
 
 -- a register that has a signal is one of the circuit's
 register_within : (circuit : Circuit) (register : ℕ) (Holds : Signal → Type 0)

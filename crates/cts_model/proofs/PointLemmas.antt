@@ -1,10 +1,5 @@
 -- Distances of points, in plain and in rotated coordinates, and halves.
-use Rattle.std.proofs.Common.{◌≡◌, ℤ, pos, negsuc, ◌+ℤ◌, ◌-ℤ◌, ◌≤ℤ◌, int_div, ap, ◌∙◌, arith}
-use Rattle.std.proofs.lemmas.Int.{ints, clamps}
-use Rattle.std.specs.Int.{int_max}
-use Rattle.cts_model.specs.declared.place.Point.{Point}
-use Rattle.cts_model.specs.declared.place.Uv.{Uv}
-use Rattle.cts_model.specs.placement.Points.{IsMultipleOf, apart, distance, rotated, rotated_distance}
+use Rattle.cts_model.proofs.Vocabulary.{◌≡◌, ℤ, pos, negsuc, ◌+ℤ◌, ◌-ℤ◌, ◌≤ℤ◌, int_div, ap, ◌∙◌, arith, ints, clamps, int_max, Point, Uv, IsMultipleOf, apart, distance, rotated, rotated_distance}
 
 -- the sum of two differences is the greater of the two rotated ones
 pub apart-rotated : (x y x' y' : ℤ)

@@ -1,10 +1,5 @@
 -- The size of a product.
-use Rattle.std.proofs.Common.{◌≡◌, ◌≤◌, ◌*◌, ◌^◌, ℕ, ℤ, pos, negsuc, ◌*ℤ◌, neg_ℤ, ◌≤ℤ◌, FitsSigned, to_z, of_z, arith}
-use mir.Syntax.{w128}
-use Rattle.std.proofs.lemmas.Int.{ints, to_z-of_z, unsigned_abs-mul}
-use Rattle.std.proofs.lemmas.Nat.{mul-le}
-use Rattle.std.specs.Prelude.{unsigned_abs}
-use Rattle.cts_model.specs.placement.Points.{IsBelow}
+use Rattle.cts_model.proofs.Vocabulary.{◌≡◌, ◌≤◌, ◌*◌, ◌^◌, ℕ, ℤ, pos, negsuc, ◌*ℤ◌, neg_ℤ, ◌≤ℤ◌, FitsSigned, to_z, of_z, arith, w128, ints, to_z-of_z, unsigned_abs-mul, mul-le, unsigned_abs, IsBelow}
 
 -- a number lies within its size
 within_size : (size : ℕ) (number : ℤ) → unsigned_abs number ≤ size → (neg_ℤ (pos size) ≤ℤ number)

@@ -1,18 +1,6 @@
 -- What the reaches of a tree say of its wire, and what they can't be below.
-use Rattle.std.proofs.Common.{◌≡◌, ℕ, ◌<◌, ◌+◌, ℤ, pos, ◌+ℤ◌, ◌-ℤ◌, ◌*ℤ◌, ◌≤ℤ◌, List, length, inl, inr, refl, sym, ap, subst, ◌∙◌, arith}
-use Rattle.std.specs.Prelude.{IfSome}
-use Rattle.std.specs.List.{slice_get}
-use Rattle.std.specs.Option.{option_map_or}
-use Rattle.std.proofs.lemmas.Int.{ints}
-use Rattle.std.proofs.lemmas.Option.{slice_get_cases, slice_get_read, IfSome_then}
-use Rattle.cts_model.specs.declared.place.Sink.{Sink}
-use Rattle.cts_model.specs.declared.place.Uv.{Uv}
-use Rattle.cts_model.specs.declared.tree.Merge.{Merge}
+use Rattle.cts_model.proofs.Vocabulary.{◌≡◌, ℕ, ◌<◌, ◌+◌, ℤ, pos, ◌+ℤ◌, ◌-ℤ◌, ◌*ℤ◌, ◌≤ℤ◌, List, length, inl, inr, refl, sym, ap, subst, ◌∙◌, arith, IfSome, slice_get, option_map_or, ints, slice_get_cases, slice_get_read, IfSome_then, Sink, Uv, Merge, Embedding, IsEmbedding, RealisesOffsets, total_length, total_wire, HasReaches, AreNoLess, total_offset, IsReach, IsTopology, root_of, sinks_below, source_of}
 use Rattle.cts_model.specs.tree.ChosenPlaces.{IsSourceReach}
-use Rattle.cts_model.specs.tree.Embeddings.{Embedding, IsEmbedding, RealisesOffsets, total_length, total_wire}
-use Rattle.cts_model.specs.tree.Reaches.{HasReaches, AreNoLess, total_offset}
-use Rattle.cts_model.specs.tree.Regions.{IsReach}
-use Rattle.cts_model.specs.tree.Topologies.{IsTopology, root_of, sinks_below, source_of}
 use Rattle.cts_model.proofs.EmbeddingLemmas.{realised, span_low, source_low, root_low}
 use Rattle.cts_model.proofs.ScaleLemmas.{scale-add}
 use Rattle.cts_model.proofs.TopologyLemmas.{number_below}

@@ -1,10 +1,5 @@
 -- The numbers of the registers, where one more signal comes.
-use Rattle.std.proofs.Common.{◌≡◌, ℕ, suc, ◌+◌, true, false, List, [], ◌∷◌, ◌++◌, length, Option, Some, None, refl, ap, ◌∙◌, arith, append-nil}
-use Rattle.std.specs.List.{filter_map, enumerate_from, cons_option}
-use Rattle.std.proofs.lemmas.List.Elements.{filter_map-append}
-use Rattle.cts_model.specs.declared.signal.Signal.{Signal}
-use Rattle.cts_model.specs.netlist.Kinds.{is_register}
-use Rattle.cts_model.specs.netlist.Circuits.{register_number, registers_of}
+use Rattle.cts_model.proofs.Vocabulary.{◌≡◌, ℕ, suc, ◌+◌, true, false, List, [], ◌∷◌, ◌++◌, length, Option, Some, None, refl, ap, ◌∙◌, arith, append-nil, filter_map, enumerate_from, cons_option, filter_map-append, Signal, is_register, register_number, registers_of}
 
 module _ {X Y : Type 0} (pick : X → Option Y) (xs : List X) (x : X) where
   -- an item at the end from which nothing is picked

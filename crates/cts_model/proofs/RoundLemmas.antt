@@ -1,11 +1,6 @@
 -- Constraints that hold together at each place, round to the first, are a cycle, and a cycle's do.
-use Rattle.std.proofs.Common.{◌≡◌, ℕ, zero, suc, ◌<◌, ◌≤◌, ◌+◌, true, false, pos, List, [], ◌∷◌, length, get_or, inl, inr, refl, sym, ap, subst, ◌∙◌, arith}
-use Rattle.std.specs.Prelude.{◌≢◌, ◌==◌, if◌then◌else◌, AllPairs, IfSome, IsSomeAnd, slice_get}
-use Rattle.std.proofs.lemmas.Bool.{cases_lt, eq-eqb, ne_eqb}
-use Rattle.std.proofs.lemmas.Option.{slice_get-get_or}
-use Rattle.cts_model.specs.declared.constraint.Constraint.{Constraint}
-use Rattle.cts_model.specs.timing.Cycles.{IsCycle, Leads, total_count}
-use Rattle.cts_model.specs.report.Judgements.{HoldsTogether, HoldsTogetherHere, next_place}
+use Rattle.cts_model.proofs.Vocabulary.{◌≡◌, ℕ, zero, suc, ◌<◌, ◌≤◌, ◌+◌, true, false, pos, List, [], ◌∷◌, length, get_or, inl, inr, refl, sym, ap, subst, ◌∙◌, arith, ◌==◌, if◌then◌else◌, AllPairs, IfSome, IsSomeAnd, cases_lt, eq-eqb, ne_eqb, slice_get-get_or, Constraint, IsCycle, Leads, total_count, HoldsTogether, HoldsTogetherHere, next_place}
+use Rattle.std.specs.Prelude.{◌≢◌, slice_get}
 
 -- the constraint at a place, and one of no weight past the end
 abbrev constraint_at : List Constraint → ℕ → Constraint
@@ -91,8 +86,7 @@ joins_along constraint (next ∷ rest) to (tail, leads) (suc place) within =
 
 -- and the last head is that register
 ends_along : (constraint : Constraint) (rest : List Constraint) (to : ℕ)
-    → Leads constraint.head rest to
-    → (constraint_at (constraint ∷ rest) (length rest)).head ≡ to
+    → Leads constraint.head rest to → (constraint_at (constraint ∷ rest) (length rest)).head ≡ to
 ends_along constraint [] to same = same
 ends_along constraint (next ∷ rest) to (tail, leads) = ends_along next rest to leads
 

@@ -1,11 +1,6 @@
 -- What is judged of a report, place by place, is what it says as a whole.
-use Rattle.std.proofs.Common.{sym, ◌∙◌}
+use Rattle.cts_model.proofs.Vocabulary.{sym, ◌∙◌, Problem, Report, IsOfSize, IsWithinBounds, ShowsWhatItSays, IsShown}
 use Rattle.std.specs.Prelude.{◌↔◌}
-use Rattle.cts_model.specs.declared.problem.Problem.{Problem}
-use Rattle.cts_model.specs.declared.report.Report.{Report}
-use Rattle.cts_model.specs.report.ReportBounds.{IsOfSize, IsWithinBounds}
-use Rattle.cts_model.specs.report.SaidReports.{ShowsWhatItSays}
-use Rattle.cts_model.specs.report.Shown.{IsShown}
 use Rattle.cts_model.proofs.SaidTimings.{judged_leads, judged_timing, said_leads, said_timing}
 use Rattle.cts_model.proofs.SaidTrees.{judged_tree, said_tree}
 use Rattle.cts_model.proofs.ShownLemmas.{edges_count, merges_count, shown_is_least, sinks_count, sinks_level}

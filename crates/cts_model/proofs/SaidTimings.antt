@@ -1,21 +1,7 @@
 -- What is judged of a report's timing, place by place, is what the report says of it.
-use Rattle.std.proofs.Common.{◌≡◌, ◌⊎◌, ℕ, List, [], ◌∷◌, length, Option, Some, None, inl, inr, refl, ap, subst, arith}
-use Rattle.std.specs.Prelude.{◌≢◌, IfSome, nat_abs, slice_get}
-use Rattle.std.specs.List.{All}
-use Rattle.std.proofs.lemmas.Option.{get_or_from_slice_get, slice_get_within}
-use Rattle.cts_base.specs.declared.fraction.Fraction.{Fraction}
-use Rattle.cts_model.specs.declared.circuit.Circuit.{Circuit}
-use Rattle.cts_model.specs.declared.constraint.Constraint.{Constraint}
-use Rattle.cts_model.specs.declared.period.PeriodShow.{PeriodShow}
-use Rattle.cts_model.specs.declared.period.PeriodShow.TheVariants.{Cycle, Floor}
-use Rattle.cts_model.specs.declared.report.Report.{Report}
-use Rattle.cts_model.specs.declared.tech.Tech.{Tech}
+use Rattle.cts_model.proofs.Vocabulary.{◌≡◌, ◌⊎◌, ℕ, List, [], ◌∷◌, length, Option, Some, None, inl, inr, refl, ap, subst, arith, IfSome, nat_abs, All, get_or_from_slice_get, slice_get_within, Fraction, Circuit, Constraint, PeriodShow, Cycle, Floor, Report, Tech, IsConstraintOf, GivesPeriod, HoldsTogether, IsOfCircuit, ShowsLeads, ShowsTiming, IsPeriodShown, arrival_of, AtEach, IsShownLeast, IsShownTiming, cycle_of}
+use Rattle.std.specs.Prelude.{◌≢◌, slice_get}
 use Rattle.cts_model.specs.timing.ConstraintPaths.{GivesWeight}
-use Rattle.cts_model.specs.timing.Constraints.{IsConstraintOf}
-use Rattle.cts_model.specs.report.Judgements.{GivesPeriod, HoldsTogether, IsOfCircuit}
-use Rattle.cts_model.specs.report.SaidReports.{ShowsLeads, ShowsTiming, IsPeriodShown}
-use Rattle.cts_model.specs.timing.Schedules.{arrival_of}
-use Rattle.cts_model.specs.report.Shown.{AtEach, IsShownLeast, IsShownTiming, cycle_of}
 use Rattle.cts_model.specs.timing.Slacks.{IsSlack}
 use Rattle.cts_model.proofs.RoundLemmas.{cycle_holds_together, round_is_cycle}
 use Rattle.cts_model.proofs.ShownTimings.{all_of_circuit, shown_meets}

@@ -1,22 +1,6 @@
 -- What is judged of a report's tree, place by place, is what the report says of the tree.
-use Rattle.std.proofs.Common.{◌≡◌, ℕ, ◌+◌, ◌*◌, ℤ, List, length, refl, sym, ap, subst, ◌∙◌, arith}
-use Rattle.std.specs.Prelude.{IfSome, IsSomeAnd, slice_get}
-use Rattle.std.proofs.lemmas.Int.{ints}
-use Rattle.std.proofs.lemmas.Option.{IfSome_then, slice_get_within}
-use Rattle.cts_model.specs.declared.place.Sink.{Sink}
-use Rattle.cts_model.specs.declared.place.Uv.{Uv}
-use Rattle.cts_model.specs.declared.report.Report.{Report}
-use Rattle.cts_model.specs.declared.tech.Tech.{Tech}
-use Rattle.cts_model.specs.declared.tree.Merge.{Merge}
-use Rattle.cts_model.specs.tree.Embeddings.{Embedding, embedding_of}
-use Rattle.cts_model.specs.report.Judgements.{HasShape, IsDrawnEdge, IsReachShown, IsSkewed}
-use Rattle.cts_model.specs.placement.Points.{rotated}
-use Rattle.cts_model.specs.tree.RealisedSchedules.{RealisesSchedule}
-use Rattle.cts_model.specs.report.ReportLines.{number_at}
-use Rattle.cts_model.specs.report.SaidReports.{ShowsTree}
-use Rattle.cts_model.specs.report.Shown.{IsShownTree}
-use Rattle.cts_model.specs.tree.ShownReaches.{AreReaches, ShowsMerge, ShowsSource}
-use Rattle.cts_model.specs.tree.Topologies.{numbers_below, root_of, source_of}
+use Rattle.cts_model.proofs.Vocabulary.{◌≡◌, ℕ, ◌+◌, ◌*◌, ℤ, List, length, refl, sym, ap, subst, ◌∙◌, arith, IfSome, IsSomeAnd, ints, IfSome_then, slice_get_within, Sink, Uv, Report, Tech, Merge, Embedding, embedding_of, HasShape, IsDrawnEdge, IsReachShown, IsSkewed, rotated, RealisesSchedule, number_at, ShowsTree, IsShownTree, AreReaches, ShowsMerge, ShowsSource, numbers_below, root_of, source_of}
+use Rattle.std.specs.Prelude.{slice_get}
 use Rattle.cts_model.proofs.DownLemmas.{down_are_reaches, reaches_are_down}
 use Rattle.cts_model.proofs.ParentLemmas.{parent_above, parent_stands}
 use Rattle.cts_model.proofs.SaidTimings.{if_there}

@@ -1,13 +1,5 @@
 -- Numbers taken over a scale: order, sums, differences, and how far two are apart.
-use Rattle.std.proofs.Common.{◌≡◌, ℕ, ◌+◌, ◌*◌, ◌<◌, ◌≤◌, ℤ, pos, negsuc, ◌+ℤ◌, ◌-ℤ◌, ◌*ℤ◌, ◌≤ℤ◌, ◌<ℤ◌, refl, sym, ap, ◌∙◌, arith}
-use Rattle.std.specs.Prelude.{nat_abs}
-use Rattle.std.proofs.Math.IntN.{*ℤ_comm}
-use Rattle.std.proofs.Math.Nat.{mul-add, mul_comm, mul-one, mul-le-mul_left}
-use Rattle.std.proofs.lemmas.Int.{ints, clamps, by_lt_z}
-use Rattle.std.specs.Int.{int_max}
-use Rattle.cts_model.specs.declared.place.Uv.{Uv}
-use Rattle.cts_model.specs.placement.Points.{apart, scaled, rotated_distance}
-use borrow.Author.Differences.{up, down}
+use Rattle.cts_model.proofs.Vocabulary.{◌≡◌, ℕ, ◌+◌, ◌*◌, ◌<◌, ◌≤◌, ℤ, pos, negsuc, ◌+ℤ◌, ◌-ℤ◌, ◌*ℤ◌, ◌≤ℤ◌, ◌<ℤ◌, refl, sym, ap, ◌∙◌, arith, nat_abs, *ℤ_comm, mul-add, mul_comm, mul-one, mul-le-mul_left, ints, clamps, by_lt_z, int_max, Uv, apart, scaled, rotated_distance, up, down}
 
 -- a number from 0 on is its size
 pub size_same : (z : ℤ) → pos 0 ≤ℤ z → pos (nat_abs z) ≡ z

@@ -1,15 +1,6 @@
 -- What a report shows of a problem is so.
-use Rattle.std.proofs.Common.{◌≡◌, ◌⊎◌, ℕ, ◌<◌, ◌≤◌, ◌+◌, ◌*◌, List, length, inl, inr, sym, subst, ◌∙◌, arith}
-use Rattle.std.specs.Prelude.{IfSome, slice_get}
-use Rattle.std.proofs.lemmas.Bool.{cases_lt}
-use Rattle.std.proofs.lemmas.Option.{slice_get_past}
-use Rattle.cts_model.specs.declared.place.Sink.{Sink}
-use Rattle.cts_model.specs.declared.problem.Problem.{Problem}
-use Rattle.cts_model.specs.declared.report.Report.{Report}
-use Rattle.cts_model.specs.tree.Embeddings.{embedding_of}
-use Rattle.cts_model.specs.report.ReportBounds.{IsOfSize, IsWithinBounds}
-use Rattle.cts_model.specs.report.ReportLines.{number_at, origin}
-use Rattle.cts_model.specs.report.Shown.{ShowsLeast, IsShown, sinks_in, source_in}
+use Rattle.cts_model.proofs.Vocabulary.{◌≡◌, ◌⊎◌, ℕ, ◌<◌, ◌≤◌, ◌+◌, ◌*◌, List, length, inl, inr, sym, subst, ◌∙◌, arith, IfSome, cases_lt, slice_get_past, Sink, Problem, Report, embedding_of, IsOfSize, IsWithinBounds, number_at, origin, ShowsLeast, IsShown, sinks_in, source_in}
+use Rattle.std.specs.Prelude.{slice_get}
 use Rattle.cts_model.proofs.ShownTimings.{shown_meets, shown_period, shown_schedule}
 use Rattle.cts_model.proofs.ShownTrees.{shown_embedding, shown_offsets, shown_topology, shown_wire}
 use Rattle.cts_model.proofs.SkewLemmas.{least_for_schedule, length-sinks_of, offsets_are_skews, sink_at}

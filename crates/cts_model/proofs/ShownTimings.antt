@@ -1,23 +1,5 @@
 -- What a report shows of the period and the schedule is so.
-use Rattle.std.proofs.Common.{◌≡◌, ℕ, ℤ, pos, ◌*ℤ◌, ◌≤ℤ◌, ◌<ℤ◌, List, length, sym, ap, subst, ◌∙◌, arith}
-use Rattle.std.specs.Prelude.{IfSome, nat_abs}
-use Rattle.std.specs.List.{All}
-use Rattle.std.proofs.Math.IntN.{*ℤ_comm}
-use Rattle.std.proofs.lemmas.Int.{ints}
-use Rattle.std.proofs.lemmas.Option.{slice_get-get_or}
-use Rattle.cts_base.specs.declared.fraction.Fraction.{Fraction}
-use Rattle.cts_model.specs.declared.circuit.Circuit.{Circuit}
-use Rattle.cts_model.specs.declared.constraint.Constraint.{Constraint}
-use Rattle.cts_model.specs.declared.period.PeriodShow.{PeriodShow}
-use Rattle.cts_model.specs.declared.period.PeriodShow.TheVariants.{Cycle, Floor}
-use Rattle.cts_model.specs.declared.report.Report.{Report}
-use Rattle.cts_model.specs.declared.tech.Tech.{Tech}
-use Rattle.cts_model.specs.timing.Constraints.{IsConstraintOf}
-use Rattle.cts_model.specs.report.Judgements.{GivesPeriod, HoldsTogether, IsOfCircuit}
-use Rattle.cts_model.specs.timing.LeastPeriods.{IsFloorPeriod, IsLeastFraction}
-use Rattle.cts_model.specs.timing.Schedules.{arrival_of, IsLeastSchedule}
-use Rattle.cts_model.specs.report.Shown.{AtEach, IsShownLeast, IsShownTiming, cycle_of}
-use Rattle.cts_model.specs.timing.Timing.{IsAdmitted, Meets}
+use Rattle.cts_model.proofs.Vocabulary.{◌≡◌, ℕ, ℤ, pos, ◌*ℤ◌, ◌≤ℤ◌, ◌<ℤ◌, List, length, sym, ap, subst, ◌∙◌, arith, IfSome, nat_abs, All, *ℤ_comm, ints, slice_get-get_or, Fraction, Circuit, Constraint, PeriodShow, Cycle, Floor, Report, Tech, IsConstraintOf, GivesPeriod, HoldsTogether, IsOfCircuit, IsFloorPeriod, IsLeastFraction, arrival_of, IsLeastSchedule, AtEach, IsShownLeast, IsShownTiming, cycle_of, IsAdmitted, Meets}
 use Rattle.cts_model.proofs.CircuitConstraints.{cycle_is_least}
 use Rattle.cts_model.proofs.LeadLemmas.{led_arrivals_are_least}
 use Rattle.cts_model.proofs.PathRegisters.{path_within}

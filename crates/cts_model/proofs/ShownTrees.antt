@@ -1,19 +1,6 @@
 -- What a report shows of its tree is so.
-use Rattle.std.proofs.Common.{◌≡◌, ◌⊎◌, ℕ, ◌<◌, ◌≤◌, ◌+◌, ◌*◌, ℤ, pos, ◌*ℤ◌, List, length, inl, inr, refl, sym, subst, ◌∙◌, arith}
-use Rattle.std.specs.Prelude.{IfSome, slice_get}
-use Rattle.std.proofs.lemmas.Bool.{cases_lt}
-use Rattle.std.proofs.lemmas.Int.{ints}
-use Rattle.std.proofs.lemmas.Option.{IfSome_then, slice_get_past, slice_get_within}
-use Rattle.cts_model.specs.declared.place.Sink.{Sink}
-use Rattle.cts_model.specs.declared.place.Uv.{Uv}
-use Rattle.cts_model.specs.declared.report.Report.{Report}
-use Rattle.cts_model.specs.declared.tree.Merge.{Merge}
-use Rattle.cts_model.specs.tree.Embeddings.{Embedding, IsEmbedding, IsLeastWire, RealisesOffsets, embedding_of}
-use Rattle.cts_model.specs.placement.Points.{scaled, rotated}
-use Rattle.cts_model.specs.report.ReportLines.{number_at}
-use Rattle.cts_model.specs.report.Shown.{IsShownTree}
-use Rattle.cts_model.specs.tree.ShownReaches.{AreReaches, AreShown, ShowsMerge, ShowsSource}
-use Rattle.cts_model.specs.tree.Topologies.{IsTopology, numbers_below, root_of, source_of}
+use Rattle.cts_model.proofs.Vocabulary.{◌≡◌, ◌⊎◌, ℕ, ◌<◌, ◌≤◌, ◌+◌, ◌*◌, ℤ, pos, ◌*ℤ◌, List, length, inl, inr, refl, sym, subst, ◌∙◌, arith, IfSome, cases_lt, ints, IfSome_then, slice_get_past, slice_get_within, Sink, Uv, Report, Merge, Embedding, IsEmbedding, IsLeastWire, RealisesOffsets, embedding_of, scaled, rotated, number_at, IsShownTree, AreReaches, AreShown, ShowsMerge, ShowsSource, IsTopology, numbers_below, root_of, source_of}
+use Rattle.std.specs.Prelude.{slice_get}
 use Rattle.cts_model.proofs.ParentLemmas.{parent_above, parent_stands}
 use Rattle.cts_model.proofs.TopologyLemmas.{some_and}
 use Rattle.cts_model.proofs.TreeLemmas.{reaches_realise, shown_reaches_are_least}

@@ -1,25 +1,8 @@
 -- From the offsets of a schedule's sinks to its skews, and back.
-use Rattle.std.proofs.Common.{◌≡◌, ◌⊎◌, ℕ, zero, suc, ◌<◌, ◌≤◌, ◌*◌, ℤ, pos, ◌+ℤ◌, ◌-ℤ◌, ◌*ℤ◌, neg_ℤ, ◌≤ℤ◌, ◌<ℤ◌, List, [], ◌∷◌, length, get_or, Some, inl, inr, refl, sym, ap, subst, ◌∙◌, arith}
-use Rattle.std.specs.Prelude.{IfSome, nat_abs, slice_get}
-use Rattle.std.proofs.Math.IntN.{*ℤ_comm, *ℤ-zero}
-use Rattle.std.proofs.lemmas.Bool.{cases_lt}
-use Rattle.std.proofs.lemmas.Int.{ints, by_lt_z}
-use Rattle.std.proofs.lemmas.Option.{slice_get_past}
-use Rattle.cts_base.specs.declared.fraction.Fraction.{Fraction}
-use Rattle.cts_model.specs.declared.circuit.Circuit.{Circuit}
-use Rattle.cts_model.specs.declared.place.Point.{Point}
-use Rattle.cts_model.specs.declared.place.Sink.{Sink}
-use Rattle.cts_model.specs.declared.place.Uv.{Uv}
+use Rattle.cts_model.proofs.Vocabulary.{◌≡◌, ◌⊎◌, ℕ, zero, suc, ◌<◌, ◌≤◌, ◌*◌, ℤ, pos, ◌+ℤ◌, ◌-ℤ◌, ◌*ℤ◌, neg_ℤ, ◌≤ℤ◌, ◌<ℤ◌, List, [], ◌∷◌, length, get_or, Some, inl, inr, refl, sym, ap, subst, ◌∙◌, arith, IfSome, nat_abs, *ℤ_comm, *ℤ-zero, cases_lt, ints, by_lt_z, slice_get_past, Fraction, Circuit, Point, Sink, Uv, Tech, Merge, least_delay, greatest_delay, AreWiresDown, Embedding, IsLeastWire, RealisesOffsets, total_wire, grid_of, scheduled_length, sink_of, sinks_of, IsSkewOf, RealisesSchedule, arrival_of, Meets}
+use Rattle.std.specs.Prelude.{slice_get}
 use Rattle.cts_model.specs.declared.schedule.Schedule.{Schedule}
-use Rattle.cts_model.specs.declared.tech.Tech.{Tech}
-use Rattle.cts_model.specs.declared.tree.Merge.{Merge}
-use Rattle.cts_model.specs.timing.Delays.{least_delay, greatest_delay}
-use Rattle.cts_model.specs.tree.Embeddings.{AreWiresDown, Embedding, IsLeastWire, RealisesOffsets, total_wire}
-use Rattle.cts_model.specs.tree.Problems.{grid_of, scheduled_length, sink_of, sinks_of}
-use Rattle.cts_model.specs.tree.RealisedSchedules.{IsSkewOf, RealisesSchedule}
-use Rattle.cts_model.specs.timing.Schedules.{arrival_of}
 use Rattle.cts_model.specs.tree.SkewLaws.{IsLeastForSchedule}
-use Rattle.cts_model.specs.timing.Timing.{Meets}
 use Rattle.cts_model.specs.tree.WireDelays.{MeetsByWire, delay_period, delay_scale, wire_delay}
 use Rattle.cts_model.proofs.PathRegisters.{path_within}
 use Rattle.cts_model.proofs.ScaleLemmas.{size_same, scale_le, scale-add, scale-sub, scale-finer}

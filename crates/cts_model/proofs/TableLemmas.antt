@@ -1,21 +1,16 @@
 -- The first flaw of a delay table, in words: the least of the names that no key has, and the first
 -- that is out of order.
-use Rattle.std.proofs.Common.{◌≡◌, ◌⊎◌, inl, inr, ℕ, zero, suc, ◌<ℤ◌, ℤ, Bool, true, false, cond, ◌||◌, int_lt, List, [], ◌∷◌, ◌++◌, All, Contains, Option, Some, None, codes, refl, sym, ap, subst, ◌∙◌, arith}
-use Rattle.std.specs.Prelude.{◌↔◌, ◌&&◌, option_map, IfSome, is_some, is_none, not, slice_index_or}
+use Rattle.cts_model.proofs.Vocabulary.{◌≡◌, ◌⊎◌, inl, inr, ℕ, zero, suc, ◌<ℤ◌, ℤ, Bool, true, false, cond, ◌||◌, int_lt, List, [], ◌∷◌, ◌++◌, Option, Some, None, codes, refl, sym, ap, subst, ◌∙◌, arith, ◌&&◌, option_map, IfSome, is_some, is_none, not, fold, option_map_or, option_or, ints, All-nil, All-cons, All-head, All-tail, All-weaker, Kind, place_of}
+use Rattle.std.proofs.Common.{All, Contains}
+use Rattle.std.specs.Prelude.{◌↔◌, slice_index_or}
 use Rattle.std.specs.Cmp.Lexicographic.{slice_cmp}
-use Rattle.std.specs.List.{fold}
-use Rattle.std.specs.Option.{option_map_or, option_or}
 use Rattle.std.specs.declared.cmp.Ordering.{Ordering}
 use Rattle.std.specs.declared.cmp.Ordering.TheVariants.{Less, Equal, Greater}
 use Rattle.std.specs.Ordering.{nat_cmp, is_eq, is_lt, ordering_reverse}
 use Rattle.std.proofs.lemmas.Cmp.{nat_list_cmp_total}
-use Rattle.std.proofs.lemmas.Int.{ints}
-use Rattle.std.proofs.lemmas.List.Elements.{All-nil, All-cons, All-head, All-tail, All-weaker}
 use Rattle.std.proofs.lemmas.Map.Text.{is_eq-slice_cmp}
 use Rattle.std.proofs.lemmas.Slice.Eq.{bytes_eq-Decides}
 use Rattle.toml.specs.Data.{Data, Members}
-use Rattle.cts_model.specs.declared.kind.Kind.{Kind}
-use Rattle.cts_model.specs.netlist.Kinds.{place_of}
 use Rattle.cts_model.specs.table.TableFlaws.{TableFlaw, Missing, WrongType, OutOfRange, LeastAboveGreatest, MissingKind, UnknownKey, absence_flaw, first_flaw, gate_flaw, is_disordered, is_needed, is_no_table, key_flaw, kind_flaw, least_name, lesser_name, name_flaw, order_flaw, register_flaw, section_flaw, table_flaw, unknown_names, value_flaw, way_flaw}
 use Rattle.cts_model.specs.table.TableKeys.{Key, Section, gate_kinds, gate_way, sections, word_of}
 use Rattle.cts_model.specs.table.TableValues.{dotted, has_form, is_in_range, number_at, table_at, value_at}
@@ -141,8 +136,7 @@ least_after start (next ∷ names) =
     among name (suc place, within, same) = (suc (suc place), omega (arith, within), same)
 
     below : (name : List ℕ)
-        → ((other : List ℕ) → Contains (lesser_of start next ∷ names) other
-        → IsNotBelow other name)
+        → ((other : List ℕ) → Contains (lesser_of start next ∷ names) other → IsNotBelow other name)
         → (other : List ℕ) → Contains (start ∷ next ∷ names) other → IsNotBelow other name
     below name least other (zero, within, same) = subst (λ one. IsNotBelow one name) same
         (not_below_trans start (lesser_of start next) name lesser.first
@@ -498,8 +492,7 @@ denoted_after_keys used document found other denoted =
 
 -- the unknown key that a table's flaw denotes is the least
 pub unknown_of_table : (used : List Bool) (document : Members) (name : List ℕ)
-    → table_flaw used document ≡ Some (UnknownKey name)
-    → IsLeastName (unknown_names document) name
+    → table_flaw used document ≡ Some (UnknownKey name) → IsLeastName (unknown_names document) name
 unknown_of_table used document name denoted =
     let suffix = denoted_after_keys used document (UnknownKey name) (λ of_key. of_key) denoted in
     let names = other_denoted (order_flaw document)

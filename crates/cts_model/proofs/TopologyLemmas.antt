@@ -1,17 +1,6 @@
 -- The sinks below the nodes of a topology, as merges come one after the other.
-use Rattle.std.proofs.Common.{◌≡◌, ℕ, zero, suc, ◌<◌, ◌≤◌, ◌+◌, List, [], ◌∷◌, ◌++◌, length, get_or, take, drop, map, Option, Some, None, inl, inr, refl, sym, ap, subst, ◌∙◌, arith, length-append}
-use Rattle.std.specs.Prelude.{IsSomeAnd}
-use Rattle.std.specs.List.{All, Contains, slice_get, filter_map, range_with_len, cons_option}
-use Rattle.std.proofs.Math.ListN.{get_or-append}
-use Rattle.std.proofs.Math.Seq.{get_or-append_seam, take-append_seam}
-use Rattle.std.proofs.lemmas.Bool.{cases_lt}
-use Rattle.std.proofs.lemmas.List.{take-append-drop, take-append-le, length-take, length-take-le, take_more, get_or_past}
-use Rattle.std.proofs.lemmas.List.Elements.{All-nil, All-cons, All-append, All-contains, All-contains_itself, All-weaker, All-map, Contains-append_left, Contains-append_right, filter_map-append}
+use Rattle.cts_model.proofs.Vocabulary.{◌≡◌, ℕ, zero, suc, ◌<◌, ◌≤◌, ◌+◌, List, [], ◌∷◌, ◌++◌, length, get_or, take, drop, map, Option, Some, None, inl, inr, refl, sym, ap, subst, ◌∙◌, arith, length-append, IsSomeAnd, All, Contains, slice_get, filter_map, range_with_len, cons_option, get_or-append, get_or-append_seam, take-append_seam, cases_lt, take-append-drop, take-append-le, length-take, length-take-le, take_more, get_or_past, All-nil, All-cons, All-append, All-contains, All-contains_itself, All-weaker, All-map, Contains-append_left, Contains-append_right, filter_map-append, slice_get_within, slice_get-get_or, slice_get_cases, slice_get_read, get_or_from_slice_get, Sink, Merge, IsMerge, numbers_at, sets_after, sets_of, numbers_below, sinks_below}
 use Rattle.std.proofs.lemmas.List.FromFn.{length-range_with_len, get_or-range_with_len, length-map-range_with_len, get_or-map-range_with_len}
-use Rattle.std.proofs.lemmas.Option.{slice_get_within, slice_get-get_or, slice_get_cases, slice_get_read, get_or_from_slice_get}
-use Rattle.cts_model.specs.declared.place.Sink.{Sink}
-use Rattle.cts_model.specs.declared.tree.Merge.{Merge}
-use Rattle.cts_model.specs.tree.Topologies.{IsMerge, numbers_at, sets_after, sets_of, numbers_below, sinks_below}
 
 -- a list is what stands before a place, the item there, and the rest
 split_at : (merges : List Merge) (place : ℕ) (merge : Merge) → slice_get merges place ≡ Some merge

@@ -1,21 +1,7 @@
 -- What the shows of a tree say of every embedding that realises the offsets.
-use Rattle.std.proofs.Common.{◌≡◌, ℕ, zero, suc, ◌<◌, ◌≤◌, ◌+◌, ◌-◌, ℤ, pos, ◌+ℤ◌, ◌-ℤ◌, ◌*ℤ◌, ◌≤ℤ◌, List, length, inl, inr, refl, sym, ap, subst, ◌∙◌, arith}
-use Rattle.std.specs.Prelude.{IfSome, IsSomeAnd}
-use Rattle.std.specs.List.{slice_get}
-use Rattle.std.proofs.lemmas.Bool.{cases_lt}
-use Rattle.std.proofs.lemmas.Int.{ints}
-use Rattle.std.proofs.lemmas.Option.{slice_get_cases, IfSome_then}
-use Rattle.cts_model.specs.declared.place.Sink.{Sink}
-use Rattle.cts_model.specs.declared.place.Uv.{Uv}
-use Rattle.cts_model.specs.declared.tree.Merge.{Merge}
+use Rattle.cts_model.proofs.Vocabulary.{◌≡◌, ℕ, zero, suc, ◌<◌, ◌≤◌, ◌+◌, ◌-◌, ℤ, pos, ◌+ℤ◌, ◌-ℤ◌, ◌*ℤ◌, ◌≤ℤ◌, List, length, inl, inr, refl, sym, ap, subst, ◌∙◌, arith, IfSome, IsSomeAnd, slice_get, cases_lt, ints, slice_get_cases, IfSome_then, Sink, Uv, Merge, Embedding, IsEmbedding, AreWiresDown, RealisesOffsets, IsLeastWire, total_length, total_wire, rotated_distance, HasReaches, span, AreReaches, AreShown, ShowsMerge, ShowsSource, IsTopology, numbers_below, root_of, source_of}
 use Rattle.cts_model.specs.declared.tree.Show.{Show}
 use Rattle.cts_model.specs.declared.tree.Show.TheVariants as shows
-use Rattle.cts_model.specs.tree.Embeddings.{Embedding, IsEmbedding, AreWiresDown, RealisesOffsets, IsLeastWire, total_length, total_wire}
-use Rattle.cts_model.specs.placement.Points.{rotated_distance}
-use Rattle.cts_model.specs.tree.Reaches.{HasReaches}
-use Rattle.cts_model.specs.tree.Regions.{span}
-use Rattle.cts_model.specs.tree.ShownReaches.{AreReaches, AreShown, ShowsMerge, ShowsSource}
-use Rattle.cts_model.specs.tree.Topologies.{IsTopology, numbers_below, root_of, source_of}
 use Rattle.cts_model.proofs.EmbeddingLemmas.{realised, realised_reaches, realised_of_sink, span_low, source_low, root_low}
 use Rattle.cts_model.proofs.ParentLemmas.{both_at, has_parent, made_parent, parent_above, parent_stands, total_by_merges}
 use Rattle.cts_model.proofs.ScaleLemmas.{scale-add}
@@ -66,8 +52,7 @@ module _ {sinks : ℕ} {merges : List Merge} (topology : IsTopology sinks merges
 
 -- a tree with reaches realises the offsets
 unfoldable pub reaches_realise_at : (scale : ℕ) (sinks : List Sink) (merges : List Merge)
-    (tree : Embedding)
-    → (reach : ℕ → ℤ) → HasReaches scale sinks merges tree reach
+    (tree : Embedding) → (reach : ℕ → ℤ) → HasReaches scale sinks merges tree reach
     → RealisesOffsets scale sinks merges tree
 reaches_realise_at scale sinks merges tree reach has = record {
   wire = λ node. reach (source_of (length sinks)) -ℤ reach node;

@@ -1,11 +1,6 @@
 -- The values of nodes without those of the two that a merge joins, and the sums that are left.
-use Rattle.std.proofs.Common.{◌≡◌, ◌≢◌, ◌⊎◌, ℕ, zero, suc, ◌<◌, ◌≤◌, ℤ, pos, ◌+ℤ◌, ◌≤ℤ◌, Bool, true, false, cond, ◌==◌, inl, inr, refl, ap, ◌∙◌, arith}
-use Rattle.std.proofs.lemmas.Bool.{cases_lt}
-use Rattle.std.proofs.lemmas.Bool.Decides.{nat_tests}
-use Rattle.std.proofs.lemmas.Int.{ints}
-use Rattle.cts_model.specs.declared.tree.Merge.{Merge}
-use Rattle.cts_model.specs.tree.Embeddings.{total_length}
-use Rattle.cts_model.specs.tree.Topologies.{Joins}
+use Rattle.cts_model.proofs.Vocabulary.{◌≡◌, ◌≢◌, ◌⊎◌, ℕ, zero, suc, ◌<◌, ◌≤◌, ℤ, pos, ◌+ℤ◌, ◌≤ℤ◌, Bool, true, false, cond, inl, inr, refl, ap, ◌∙◌, arith, cases_lt, nat_tests, ints, Merge, total_length, Joins}
+use Rattle.std.proofs.Common.{◌==◌}
 
 -- the values without that of one node
 abbrev without : (ℕ → ℤ) → ℕ → ℕ → ℤ

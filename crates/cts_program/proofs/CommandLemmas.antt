@@ -1,17 +1,7 @@
 -- What a command comes to whose files are read, and a demonstration, which reads none.
-use Rattle.std.proofs.Common.{ℕ, inl, inr, List, [], Option, Result, Ok, Err, IfOk, IfErr, refl, Bor}
-use Rattle.cts_model.specs.declared.problem.Problem.{Problem}
+use Rattle.cts_program.proofs.Vocabulary.{ℕ, inl, inr, List, [], Option, Result, Ok, Err, IfOk, IfErr, refl, Bor, Problem, Demo, Answer, ending_status, Failure, IsUnshown, RefusesTold, IsAnswer, IsRefusal, request_of, DenotesText, Stops, refused, wants_memory, OrMemory, IsStep, reported}
 use Rattle.cts_model.specs.declared.report.Report.{Report}
-use Rattle.command_line.specs.declared.command.Command.TheVariants.{Demo}
 use Rattle.command_line.specs.declared.table.Form.TheVariants as forms
-use Rattle.answer_texts.specs.declared.answer.Answer.{Answer}
-use Rattle.answer_texts.specs.Endings.{ending_status}
-use Rattle.failure_lines.specs.declared.failure.Failure.{Failure}
-use Rattle.cts_program.specs.Answers.{IsUnshown, RefusesTold, IsAnswer, IsRefusal}
-use Rattle.cts_program.specs.Files.{request_of}
-use Rattle.cts_program.specs.Run.{DenotesText, Stops, refused, wants_memory}
-use Rattle.cts_program.specs.Steps.{OrMemory, IsStep}
-use Rattle.cts_program.specs.Told.{reported}
 
 -- a report that isn't shown is refused though it is read
 pub check_fails : (problem : Problem) (report : Report) (failure : Failure)

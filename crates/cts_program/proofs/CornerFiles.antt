@@ -1,16 +1,7 @@
 -- The delay tables of corners, which are read one after the other.
-use Rattle.std.proofs.Common.{◌≡◌, ◌<◌, ◌≤◌, ◌+◌, ℕ, suc, List, [], ◌∷◌, ◌++◌, length, map, take, drop, drop-cons, get_or, String, Global, string_bytes, Option, ap, sym, ◌∙◌, subst, arith}
-use Rattle.std.proofs.lemmas.List.{take-append-drop, length-map, length-take-le, map-append, map_more}
-use Rattle.cts_model.specs.declared.circuit.Circuit.{Circuit}
-use Rattle.cts_model.specs.declared.tech.Tech.{Tech}
+use Rattle.cts_program.proofs.Vocabulary.{◌≡◌, ◌<◌, ◌≤◌, ◌+◌, ℕ, suc, List, [], ◌∷◌, ◌++◌, length, map, take, drop, drop-cons, get_or, String, Global, string_bytes, Option, ap, sym, ◌∙◌, subst, arith, take-append-drop, length-map, length-take-le, map-append, map_more, Circuit, Tech, IsHostedBy, Failure, Bench, Corner, corner_files, IsRead, IsUnread, AreRead, AreUnread, Told, bare, TellsCircuit}
 use Rattle.cts_model.specs.netlist.Paths.{IsLoop}
-use Rattle.cts_engine.specs.Accepted.{IsHostedBy}
 use Rattle.cts_engine.proofs.HostedLoops.{acyclic_hosted}
-use Rattle.failure_lines.specs.declared.failure.Failure.{Failure}
-use Rattle.failure_lines.specs.declared.file_kind.FileKind.TheVariants.{Bench, Corner}
-use Rattle.cts_program.specs.Files.{corner_files}
-use Rattle.cts_program.specs.Steps.{IsRead, IsUnread, AreRead, AreUnread}
-use Rattle.cts_program.specs.Told.{Told, bare, TellsCircuit}
 use Rattle.cts_program.proofs.ReadLemmas.{read_more, unread_after}
 
 -- the file after some of them, with its number
@@ -75,8 +66,7 @@ module _ (holds : List ℕ → Option (List ℕ)) (bench : List ℕ) (tables : L
       told) where
     -- one more table
     pub corner_read : {next : Told}
-        → IsRead (holds (string_bytes table)) (Corner (place + 1)) told next
-        → AreRead holds
+        → IsRead (holds (string_bytes table)) (Corner (place + 1)) told next → AreRead holds
         ((Bench, bench) ∷ corner_files 1 (map string_bytes (take (place + 1) tables))) next
     unfolding before
     corner_read {next} last =

@@ -1,8 +1,6 @@
 -- The options of the commands `demo` and `margin` that name no files.
-use Rattle.std.proofs.Common.{◌≡◌, ◌||◌, Bool, true, false, List, [], ℕ, refl, arith}
+use Rattle.cts_program.proofs.Vocabulary.{◌≡◌, ◌||◌, Bool, true, false, List, [], ℕ, refl, arith, Demo, Margin, is_number_within, is_period, HasValidValues}
 use Rattle.std.specs.Borrow.{Bor}
-use Rattle.command_line.specs.declared.command.Command.TheVariants.{Demo, Margin}
-use Rattle.command_line.specs.Commands.{is_number_within, is_period, HasValidValues}
 
 -- a test passes where it is the only one that may
 only : (b : Bool) → (b || false) ≡ true → b ≡ true

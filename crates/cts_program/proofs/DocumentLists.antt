@@ -1,12 +1,6 @@
 -- Files of a command, each judged after those before it: they tell one thing, and where they are
 -- accepted none is refused.
-use Rattle.std.proofs.Common.{ℕ, ◌≡◌, ◌≤◌, ◌⊎◌, inl, inr, suc, List, [], ◌∷◌, ◌++◌, length, refl, ap, ap₂, sym, ◌∙◌, subst, arith}
-use Rattle.failure_lines.specs.declared.failure.Failure.{Failure}
-use Rattle.failure_lines.specs.declared.failure.Failure.TheVariants.{TooLong}
-use Rattle.failure_lines.specs.declared.file_kind.FileKind.{FileKind}
-use Rattle.failure_lines.specs.Failures.{status_of}
-use Rattle.cts_program.specs.Documents.{IsAcceptedAs, IsRefusedAs, Tell, RefusesFirst}
-use Rattle.cts_program.specs.Told.{Told}
+use Rattle.cts_program.proofs.Vocabulary.{ℕ, ◌≡◌, ◌≤◌, ◌⊎◌, inl, inr, suc, List, [], ◌∷◌, ◌++◌, length, refl, ap, ap₂, sym, ◌∙◌, subst, arith, Failure, TooLong, FileKind, status_of, IsAcceptedAs, IsRefusedAs, Tell, RefusesFirst, Told}
 use Rattle.cts_program.proofs.OneDocument.{ReportLaws, one_next, accepted_fine, refused_status}
 
 -- ---- contents that agree
@@ -114,8 +108,7 @@ module _ (laws : ReportLaws) where
 -- status of a kind of those after them
 pub first_or_later : (kinds more : List FileKind) (before : Told) (contents known : List (List ℕ))
     (failure : Failure) → Agree contents known → length kinds ≤ length contents
-    → RefusesFirst (kinds ++ more) before known failure
-    → RefusesFirst kinds before contents failure
+    → RefusesFirst (kinds ++ more) before known failure → RefusesFirst kinds before contents failure
     ⊎ ((told : Told) × ((later : List (List ℕ)) × RefusesFirst more told later failure))
 first_or_later [] more before contents known failure agree within refuses =
     inr (before, (known, refuses))

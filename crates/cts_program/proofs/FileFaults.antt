@@ -1,21 +1,12 @@
 -- What refuses a placement or a report is the failure that it is reported as.
-use Rattle.std.proofs.Common.{◌≡◌, ◌≢◌, ◌<◌, ℕ, List, length, Some, Err, inl, inr, refl, sym, ap, ◌∙◌}
+use Rattle.cts_program.proofs.Vocabulary.{◌≡◌, ◌≢◌, ◌<◌, ℕ, List, length, Some, Err, inl, inr, refl, sym, ap, ◌∙◌, told_err, Circuit, Problem, PlaceFault, ReportFault, report_failure_of, Refuses, OrMemory, placed}
 use Rattle.cts_base.specs.LineFormats.{IsToldBy}
-use Rattle.cts_base.proofs.Told.{told_err}
-use Rattle.cts_model.specs.declared.circuit.Circuit.{Circuit}
-use Rattle.cts_model.specs.declared.problem.Problem.{Problem}
-use Rattle.place_reader.specs.declared.fault.PlaceFault.{PlaceFault}
 use Rattle.place_reader.specs.declared.fault.PlaceFault.TheVariants as place
 use Rattle.place_reader.specs.Placements.{places_in}
 use Rattle.place_reader.proofs.TellsPlaces.{unplaced_within}
-use Rattle.report_text.specs.declared.fault.ReportFault.{ReportFault}
 use Rattle.report_text.specs.declared.fault.ReportFault.TheVariants as report
 use Rattle.report_text.specs.ReportFaults.{HasFault}
 use Rattle.failure_lines.specs.declared.file_kind.FileKind.TheVariants as kinds
-use Rattle.failure_lines.specs.Refusals.{report_failure_of}
-use Rattle.cts_program.specs.Documents.{Refuses}
-use Rattle.cts_program.specs.Steps.{OrMemory}
-use Rattle.cts_program.specs.Told.{placed}
 
 -- a register that has no place is one of the circuit
 pub unplaced_told : (circuit : Circuit) (source host text : List ℕ) (fault : PlaceFault)

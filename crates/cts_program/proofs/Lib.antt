@@ -1,3 +1,4 @@
+mod Vocabulary
 mod ResultLemmas
 mod WireTexts
 mod ReasonLemmas

@@ -1,25 +1,10 @@
 -- What is asked for is answered with one status on the same contents, or refused with one, and not
 -- both.
-use Rattle.std.proofs.Common.{ℕ, ◌≡◌, ◌≢◌, ◌<◌, ◌≤◌, ◌⊎◌, inl, inr, List, [], ◌∷◌, length, take, refl, ap, sym, ◌∙◌, subst, append-nil, arith}
-use Rattle.std.proofs.lemmas.List.{length-map}
-use Rattle.cert_check.specs.declared.verdict.Reason.{Reason}
+use Rattle.cts_program.proofs.Vocabulary.{ℕ, ◌≡◌, ◌≢◌, ◌<◌, ◌≤◌, ◌⊎◌, inl, inr, List, [], ◌∷◌, length, take, refl, ap, sym, ◌∙◌, subst, append-nil, arith, length-map, Reason, Command, Check, Demo, Form, form_of, Given, Failure, status_of, reason_failure_of, kinds_for, texts_for, judged_kinds, Tells, IsUnshown, RefusesTold, IsText, IsAnswer, IsRefusal, IsAccepted, IsStatusOf, FindsNoPeriod, subject_of, RefusesFirst, NamedFile, Request, request_of, Told, nothing, reported}
 use Rattle.cert_check.specs.declared.verdict.Reason.TheVariants as reasons
 use Rattle.cert_check.proofs.JudgedLemmas.{verdict_shown}
-use Rattle.command_line.specs.declared.command.Command.{Command}
-use Rattle.command_line.specs.declared.command.Command.TheVariants.{Check, Demo}
-use Rattle.command_line.specs.declared.table.Form.{Form}
 use Rattle.command_line.specs.declared.table.Form.TheVariants as forms
-use Rattle.command_line.specs.CommandTable.{form_of}
-use Rattle.command_line.specs.Commands.{Given}
-use Rattle.failure_lines.specs.declared.failure.Failure.{Failure}
 use Rattle.failure_lines.specs.declared.file_kind.FileKind.TheVariants as kinds
-use Rattle.failure_lines.specs.Failures.{status_of}
-use Rattle.failure_lines.specs.Refusals.{reason_failure_of}
-use Rattle.cts_program.specs.Answers.{kinds_for, texts_for, judged_kinds, Tells, IsUnshown, RefusesTold, IsText, IsAnswer, IsRefusal, IsAccepted, IsStatusOf, FindsNoPeriod}
-use Rattle.cts_program.specs.Subjects.{subject_of}
-use Rattle.cts_program.specs.Documents.{RefusesFirst}
-use Rattle.cts_program.specs.Files.{NamedFile, Request, request_of}
-use Rattle.cts_program.specs.Told.{Told, nothing, reported}
 use Rattle.cts_program.proofs.DocumentLists.{Agree, agree_same, agree_rotated, agree_self, one_telling, told_fine, one_refusal, first_or_later}
 use Rattle.cts_program.proofs.OneDocument.{ReportLaws, refused_status}
 use Rattle.cts_program.proofs.OneText.{one_status, no_answer_prefix, finds_none, finds_some}

@@ -1,9 +1,7 @@
 -- A file tells one thing, or is refused with one status, and not both.
-use Rattle.std.proofs.Common.{ℕ, ◌≡◌, ◌≢◌, ◌==◌, ◌⊎◌, inl, inr, List, [], ◌∷◌, ◌++◌, length, Some, None, refl, ap, ap₂, sym, ◌∙◌, subst}
+use Rattle.cts_program.proofs.Vocabulary.{ℕ, ◌≡◌, ◌≢◌, ◌==◌, ◌⊎◌, inl, inr, List, [], ◌∷◌, ◌++◌, length, Some, None, refl, ap, ap₂, sym, ◌∙◌, subst, Circuit, Tech, PlaceFault, ReportFault, IsHostedBy, TellsDelays, HasFaultFor, Failure, TooLong, FileKind, status_of, bench_failure_of, tech_failure_of, place_failure_of, topology_failure_of, moves_failure_of, report_failure_of, DiffersFromFirst, Means, Refuses, IsAcceptedAs, IsRefusedAs, Told, nothing, bare, timed, placed, reported, joined, moving, TellsCircuit, TellsTech}
 use Rattle.cts_base.proofs.Told as told
-use Rattle.cts_model.specs.declared.circuit.Circuit.{Circuit}
 use Rattle.cts_model.specs.declared.signal.Signal.{Signal}
-use Rattle.cts_model.specs.declared.tech.Tech.{Tech}
 use Rattle.cts_model.proofs.OneRecord.{one_use, same_tech}
 use Rattle.cts_model.specs.table.PlainTable.{IsPlainTable}
 use Rattle.bench_reader.specs.declared.fault.BenchFault.{BenchFault}
@@ -15,23 +13,13 @@ use Rattle.delay_tables.specs.declared.fault.TechFault.TheVariants as tech
 use Rattle.delay_tables.proofs.OneFault.{not_refused}
 use Rattle.move_session.specs.declared.fault.MovesFault.{MovesFault}
 use Rattle.move_session.specs.declared.fault.MovesFault.TheVariants as moves
-use Rattle.place_reader.specs.declared.fault.PlaceFault.{PlaceFault}
 use Rattle.place_reader.specs.declared.fault.PlaceFault.TheVariants as place
-use Rattle.report_text.specs.declared.fault.ReportFault.{ReportFault}
 use Rattle.report_text.specs.declared.fault.ReportFault.TheVariants as report
 use Rattle.topology_file.specs.declared.fault.TopologyFault.{TopologyFault}
 use Rattle.topology_file.specs.declared.fault.TopologyFault.TheVariants as topology
 use Rattle.report_text.specs.Laws.{OneReport, OneFault, NoFaultOfReport}
-use Rattle.cts_engine.specs.Accepted.{IsHostedBy, TellsDelays, HasFaultFor}
 use Rattle.cts_engine.proofs.OneProblem.{one_netlist, one_hosted, one_delays, same_problem}
-use Rattle.failure_lines.specs.declared.failure.Failure.{Failure}
-use Rattle.failure_lines.specs.declared.failure.Failure.TheVariants.{TooLong}
-use Rattle.failure_lines.specs.declared.file_kind.FileKind.{FileKind}
 use Rattle.failure_lines.specs.declared.file_kind.FileKind.TheVariants as kinds
-use Rattle.failure_lines.specs.Failures.{status_of}
-use Rattle.failure_lines.specs.Refusals.{bench_failure_of, tech_failure_of, place_failure_of, topology_failure_of, moves_failure_of, report_failure_of}
-use Rattle.cts_program.specs.Documents.{DiffersFromFirst, Means, Refuses, IsAcceptedAs, IsRefusedAs}
-use Rattle.cts_program.specs.Told.{Told, nothing, bare, timed, placed, reported, joined, moving, TellsCircuit, TellsTech}
 
 -- what is known of the texts of reports
 pub record ReportLaws : Type 0 where

@@ -1,21 +1,13 @@
 -- The texts for what a command is told have one status, none is a prefix of another, and the status
 -- says whether a period is admitted.
-use Rattle.std.proofs.Common.{ℕ, ◌≡◌, ◌<◌, ◌⊎◌, inl, inr, false, List, length, take, refl, subst}
-use Rattle.cts_model.specs.declared.circuit.Circuit.{Circuit}
-use Rattle.cts_model.specs.declared.tech.Tech.{Tech}
+use Rattle.cts_program.proofs.Vocabulary.{ℕ, ◌≡◌, ◌<◌, ◌⊎◌, inl, inr, false, List, length, take, refl, subst, Circuit, Tech, Form, Given, Ending, ending_status, number_given, value_given, IsText, IsStatusOf, AdmitsNone, Told, bare, placed, reported, joined, moving, IsTimedSo, TellsCircuit, TellsTech}
 use Rattle.cts_model.specs.timing.LeastPeriods.{HasNoPeriod}
-use Rattle.command_line.specs.declared.table.Form.{Form}
 use Rattle.command_line.specs.declared.table.Form.TheVariants as forms
-use Rattle.command_line.specs.Commands.{Given}
 use Rattle.corners.specs.CommonPeriods.{HasNoCommonPeriod}
-use Rattle.answer_texts.specs.declared.answer.Ending.{Ending}
 use Rattle.answer_texts.specs.declared.answer.Ending.TheVariants as endings
-use Rattle.answer_texts.specs.Endings.{ending_status}
 use Rattle.answer_texts.proofs.AnswerTexts.{zero_text, period_text, schedule_text, check_text, synth_text, embed_text, margin_text, moves_text, demo_text, corners_text}
 use Rattle.answer_texts.proofs.CountedTexts.{looks_for_period, IsTextWith}
 use Rattle.answer_texts.proofs.OneText as texts
-use Rattle.cts_program.specs.Answers.{number_given, value_given, IsText, IsStatusOf, AdmitsNone}
-use Rattle.cts_program.specs.Told.{Told, bare, placed, reported, joined, moving, IsTimedSo, TellsCircuit, TellsTech}
 use Rattle.cts_program.proofs.OneDocument.{one_circuit, one_tech}
 
 -- ---- what a text says

@@ -1,12 +1,5 @@
 -- Files that are read one after the other, and what comes of it where one isn't.
-use Rattle.std.proofs.Common.{ℕ, ◌≡◌, ◌<◌, inl, inr, List, [], ◌∷◌, ◌++◌, length, Option, Some, None, replicate, append_assoc, refl, ap, ◌∙◌, subst, arith}
-use Rattle.std.proofs.lemmas.List.{length-replicate}
-use Rattle.failure_lines.specs.declared.failure.Failure.{Failure}
-use Rattle.cts_program.specs.Answers.{kinds_in}
-use Rattle.cts_program.specs.Documents.{IsAcceptedAs, IsRefusedAs, Tell, RefusesFirst}
-use Rattle.cts_program.specs.Files.{NamedFile, IsShortFile, AreContents}
-use Rattle.cts_program.specs.Steps.{IsReportedAs, IsRead, IsUnread, AreRead, AreUnread}
-use Rattle.cts_program.specs.Told.{Told, nothing}
+use Rattle.cts_program.proofs.Vocabulary.{ℕ, ◌≡◌, ◌<◌, inl, inr, List, [], ◌∷◌, ◌++◌, length, Option, Some, None, replicate, append_assoc, refl, ap, ◌∙◌, subst, arith, length-replicate, Failure, kinds_in, IsAcceptedAs, IsRefusedAs, Tell, RefusesFirst, NamedFile, IsShortFile, AreContents, IsReportedAs, IsRead, IsUnread, AreRead, AreUnread, Told, nothing}
 
 -- there are bytes of each length
 many_bytes : (count : ℕ) → (bytes : List ℕ) × (length bytes ≡ count)

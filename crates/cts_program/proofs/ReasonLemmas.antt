@@ -1,16 +1,12 @@
 -- The register that a verdict on a report is about is one of the circuit.
-use Rattle.std.proofs.Common.{◌≡◌, ◌<◌, ◌⊎◌, ℕ, length, inl, inr, refl, sym, ◌∙◌, subst}
-use Rattle.cts_model.specs.declared.problem.Problem.{Problem}
+use Rattle.cts_program.proofs.Vocabulary.{◌≡◌, ◌<◌, ◌⊎◌, ℕ, length, inl, inr, refl, sym, ◌∙◌, subst, Problem, length-sinks_of, Reason, IsRegisterReason}
 use Rattle.cts_model.specs.declared.report.Report.{Report}
 use Rattle.cts_model.specs.report.ReportBounds.{IsOfSize}
 use Rattle.cts_model.specs.report.Shown.{sinks_in}
-use Rattle.cts_model.proofs.SkewLemmas.{length-sinks_of}
-use Rattle.cert_check.specs.declared.verdict.Reason.{Reason}
 use Rattle.cert_check.specs.declared.verdict.Reason.TheVariants.{BelowFloor, CycleBroken, NotOfCircuit, CycleValue, ScheduleMisses, TreeShape, TooShort, WireSum, SkewDiffers, Unshown, Total, SlackDiffers, PathBroken, NotLeast}
 use Rattle.cert_check.specs.declared.verdict.Verdict.TheVariants.{Not}
 use Rattle.cert_check.specs.Judged.{Judged, JudgedOnce}
 use Rattle.cert_check.specs.Verdicts.{IsVerdict}
-use Rattle.cts_program.specs.Subjects.{IsRegisterReason}
 
 -- the reason is about no register, or about one below this number
 abbrev IsAmong : ℕ → Reason → Type 0

@@ -1,27 +1,12 @@
 -- What the causes of failures leave of the exit status.
-use Rattle.std.proofs.Common.{ℕ, ◌≡◌, ◌≢◌, ◌<◌, ◌≤◌, ◌⊎◌, inl, inr, List, [], ◌++◌, ◌∷◌, length, take, Option, Some, refl, ap, sym, ◌∙◌, subst, arith, append-nil, true, false}
+use Rattle.cts_program.proofs.Vocabulary.{ℕ, ◌≡◌, ◌≢◌, ◌<◌, ◌≤◌, ◌⊎◌, inl, inr, List, [], ◌++◌, ◌∷◌, length, take, Option, Some, refl, ap, sym, ◌∙◌, subst, arith, append-nil, true, false, append_cancel_left, Command, IsCommand, Ending, ending_status, Failure, Usage, TooLong, Refused, WriteFault, FileKind, Report, status_of, words_failure_of, kinds_for, texts_for, IsAnswer, IsRefusal, IsAccepted, IsStatusOf, FindsNoPeriod, NamedFile, Request, Ask, request_of, AreDenoted, IsNoCommand, DenotesText, RefusesRequest, CannotRead, EndsInPart, Stops, refused, unread, wants_memory, Fails, usage, stops, unwritten, NoneRose, nothing}
 use Rattle.std.proofs.Math.Dec.{eqb}
 use Rattle.std.proofs.lemmas.Bool.Decides.{eqb_tells}
-use Rattle.std.proofs.lemmas.List.{append_cancel_left}
 use Rattle.std.proofs.lemmas.List.Elements.{All-head, All-drop}
 use Rattle.cts_io.specs.Device.{Rose, appended, WritesPrefix}
 use Rattle.command_line.specs.declared.command.WordsFault.{WordsFault}
 use Rattle.command_line.specs.declared.command.WordsFault.TheVariants as word_faults
-use Rattle.command_line.specs.declared.command.Command.{Command}
-use Rattle.command_line.specs.Commands.{IsCommand}
-use Rattle.answer_texts.specs.declared.answer.Ending.{Ending}
 use Rattle.answer_texts.specs.declared.answer.Ending.TheVariants.{Done, Never}
-use Rattle.answer_texts.specs.Endings.{ending_status}
-use Rattle.failure_lines.specs.declared.failure.Failure.{Failure}
-use Rattle.failure_lines.specs.declared.failure.Failure.TheVariants.{Usage, TooLong, Refused, WriteFault}
-use Rattle.failure_lines.specs.declared.file_kind.FileKind.{FileKind}
-use Rattle.failure_lines.specs.declared.file_kind.FileKind.TheVariants.{Report}
-use Rattle.failure_lines.specs.Failures.{status_of}
-use Rattle.failure_lines.specs.Refusals.{words_failure_of}
-use Rattle.cts_program.specs.Answers.{kinds_for, texts_for, IsAnswer, IsRefusal, IsAccepted, IsStatusOf, FindsNoPeriod}
-use Rattle.cts_program.specs.Files.{NamedFile, Request, Ask, request_of, AreDenoted}
-use Rattle.cts_program.specs.Run.{IsNoCommand, DenotesText, RefusesRequest, CannotRead, EndsInPart, Stops, refused, unread, wants_memory, Fails, usage, stops, unwritten, NoneRose}
-use Rattle.cts_program.specs.Told.{nothing}
 use Rattle.cts_program.proofs.DocumentLists.{Agree, refusal_status}
 use Rattle.cts_program.proofs.OneAnswer.{answer_status, answer_prefix, answer_never, answer_found, answer_not_refused, refusals_alike, accepted_refusal, told_statuses}
 use Rattle.cts_program.proofs.OneDocument.{ReportLaws, two_statuses}
@@ -79,8 +64,7 @@ not_refusal status other (inr seven) same not_three not_seven = not_seven (sym s
 
 -- a refusal has one
 refuses_with : (holds : List ℕ → Option (List ℕ)) (request : Request)
-    (failure : Failure) → RefusesRequest holds request failure
-    → IsRefusalStatus (status_of failure)
+    (failure : Failure) → RefusesRequest holds request failure → IsRefusalStatus (status_of failure)
 refuses_with holds request failure refuses = at refuses.refusal
   where
     at : IsRefusal request refuses.contents failure → IsRefusalStatus (status_of failure)
@@ -339,8 +323,7 @@ fault_status failure status IsFault is_fault before now stays more =
 -- a fault of the words is a failure of the command line
 pub words_fail : (words : List (List ℕ)) (holds : List ℕ → Option (List ℕ))
     (reads reads_now : List ℕ → ℕ) (before now : Option (List ℕ)) (writes writes_now : ℕ)
-    (fault : WordsFault)
-    → (fault ≡ word_faults.Usage → IsNoCommand words)
+    (fault : WordsFault) → (fault ≡ word_faults.Usage → IsNoCommand words)
     → (fault ≡ word_faults.NoMemory → (command : Command) × IsCommand words command)
     → Fails words holds reads reads_now before now writes writes_now (words_failure_of fault)
 words_fail words holds reads reads_now before now writes writes_now word_faults.Usage none some =

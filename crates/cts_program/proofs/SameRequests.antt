@@ -1,14 +1,9 @@
 -- The words of a command line ask for one thing, so what is said of the contents of the files that
 -- they name is one.
-use Rattle.std.proofs.Common.{ℕ, ◌≡◌, ◌≤◌, if◌then◌else◌, List, [], ◌∷◌, ◌++◌, length, Option, Some, None, IfSome, codes, refl, ap₂, sym, ◌∙◌, subst, arith}
-use Rattle.std.specs.List.{flat_map}
+use Rattle.cts_program.proofs.Vocabulary.{ℕ, ◌≡◌, ◌≤◌, if◌then◌else◌, List, [], ◌∷◌, ◌++◌, length, Option, Some, None, IfSome, codes, refl, ap₂, sym, ◌∙◌, subst, arith, flat_map, Command, Zero, Given, options_of, tables_of, IsSame, Bench, Placement, Report, Topology, Moves, NamedFile, Request, Ask, request_of, corner_files, files_of, AreContents, AreDenoted}
 use Rattle.std.specs.Str.{bytes_eq}
-use Rattle.command_line.specs.declared.command.Command.{Command}
-use Rattle.command_line.specs.declared.command.Command.TheVariants.{Zero}
-use Rattle.command_line.specs.Commands.{Given, options_of, tables_of, IsSame}
 use Rattle.command_line.proofs.PlainCommands.{one_command, same_form}
-use Rattle.failure_lines.specs.declared.file_kind.FileKind.TheVariants.{Bench, Tech, Placement, Report, Topology, Moves}
-use Rattle.cts_program.specs.Files.{NamedFile, Request, Ask, request_of, corner_files, files_of, AreContents, AreDenoted}
+use Rattle.failure_lines.specs.declared.file_kind.FileKind.TheVariants.{Tech}
 use Rattle.cts_program.proofs.DocumentLists.{Agree}
 
 -- the file that an option names, if it names one

@@ -1,25 +1,8 @@
 -- Steps of a command, one after the other, and its answer at the end.
-use Rattle.std.proofs.Common.{ℕ, ◌≡◌, ◌≢◌, inl, inr, List, ◌++◌, Option, Result, Ok, Err, IfOk, IfErr, IsErrOf, refl, ap, sym, ◌∙◌, subst}
-use Rattle.std.proofs.lemmas.List.{length-map}
-use Rattle.cts_model.specs.declared.circuit.Circuit.{Circuit}
-use Rattle.cts_model.specs.declared.tech.Tech.{Tech}
+use Rattle.cts_program.proofs.Vocabulary.{ℕ, ◌≡◌, ◌≢◌, inl, inr, List, ◌++◌, Option, Result, Ok, Err, IfOk, IfErr, IsErrOf, refl, ap, sym, ◌∙◌, subst, length-map, Circuit, Tech, Command, Form, form_of, Given, options_of, Answer, ending_status, Failure, FileKind, kinds_in, kinds_for, texts_for, Tells, JoinTooMany, RefusesTold, IsText, Tell, RefusesFirst, NamedFile, Request, files_of, request_of, Stops, refused, unread, wants_memory, OrMemory, IsStep, IsServed, AreRead, AreUnread, FailsCircuit, Told, nothing, TellsCircuit, TellsTech, IsTimedSo}
 use Rattle.cts_model.specs.timing.PairLists.{JoinsMoreThan}
-use Rattle.command_line.specs.declared.command.Command.{Command}
-use Rattle.command_line.specs.declared.table.Form.{Form}
 use Rattle.command_line.specs.declared.table.Form.TheVariants as forms
-use Rattle.command_line.specs.CommandTable.{form_of}
-use Rattle.command_line.specs.Commands.{Given, options_of}
-use Rattle.answer_texts.specs.declared.answer.Answer.{Answer}
-use Rattle.answer_texts.specs.Endings.{ending_status}
-use Rattle.failure_lines.specs.declared.failure.Failure.{Failure}
 use Rattle.failure_lines.specs.declared.failure.Failure.TheVariants as failures
-use Rattle.failure_lines.specs.declared.file_kind.FileKind.{FileKind}
-use Rattle.cts_program.specs.Answers.{kinds_in, kinds_for, texts_for, Tells, JoinTooMany, RefusesTold, IsText}
-use Rattle.cts_program.specs.Documents.{Tell, RefusesFirst}
-use Rattle.cts_program.specs.Files.{NamedFile, Request, files_of, request_of}
-use Rattle.cts_program.specs.Run.{Stops, refused, unread, wants_memory}
-use Rattle.cts_program.specs.Steps.{OrMemory, IsStep, IsServed, AreRead, AreUnread, FailsCircuit}
-use Rattle.cts_program.specs.Told.{Told, nothing, TellsCircuit, TellsTech, IsTimedSo}
 use Rattle.cts_program.proofs.DocumentLists.{length-tell}
 use Rattle.cts_program.proofs.OneDocument.{one_circuit}
 use Rattle.cts_program.proofs.ReadLemmas.{unread_before}
@@ -32,8 +15,7 @@ module _ {Value : Type 0} {holds holds_now : List ℕ → Option (List ℕ)} {re
     {Gives : Value → Type 0} {Fails : Failure → Type 0} where
   -- a step of which more is known
   pub step_from : {Others : Value → Type 0} {Causes : Failure → Type 0}
-      (result : Result Value Failure)
-      → IsStep holds holds_now reads reads_now Gives Fails result
+      (result : Result Value Failure) → IsStep holds holds_now reads reads_now Gives Fails result
       → ((value : Value) → Gives value → Others value)
       → ((failure : Failure) → Fails failure → Causes failure)
       → IsStep holds holds_now reads reads_now Others Causes result
@@ -52,8 +34,7 @@ module _ {Value : Type 0} {holds holds_now : List ℕ → Option (List ℕ)} {re
 
   -- a step that fails ends all that begins with it
   pub step_fails : {Last : Type 0} {Others : Last → Type 0} {Causes : Failure → Type 0}
-      (failure : Failure)
-      → IsStep holds holds_now reads reads_now Gives Fails (Err failure)
+      (failure : Failure) → IsStep holds holds_now reads reads_now Gives Fails (Err failure)
       → (Fails failure → Causes failure)
       → IsStep {Value = Last} holds holds_now reads reads_now Others Causes (Err failure)
   step_fails {Last} failure step fails = record {
@@ -198,8 +179,7 @@ module _ (command : Command) (by_name : form_of command ≢ forms.Demo) where
     pub reading_fails : {Value : Type 0} {Gives : Value → Type 0} (files more : List NamedFile)
         → files_of command ≡ files ++ more → (failure : Failure)
         → IsStep holds holds_now reads reads_now Gives (AreUnread holds reads reads_now files)
-        (Err failure)
-        → IsServed holds holds_now reads reads_now asked (Err failure)
+        (Err failure) → IsServed holds holds_now reads reads_now asked (Err failure)
     reading_fails files more are failure step =
         step_fails failure step (λ unread. reading_stops reads reads_now failure
         (subst (λ fs. AreUnread holds reads reads_now fs failure) (sym are)
@@ -211,8 +191,7 @@ module _ (command : Command) (by_name : form_of command ≢ forms.Demo) where
         → TellsCircuit told circuit → asked.form ≢ forms.Check
         → IfOk result (λ answer. JoinsMoreThan circuit 1048576 → ⊥)
         → IfOk result (λ answer. IsText asked.form asked.given told
-        (ending_status answer.ending) answer.text.items)
-        → IfErr result (FailsCircuit circuit)
+        (ending_status answer.ending) answer.text.items) → IfErr result (FailsCircuit circuit)
         → IsServed holds holds_now reads reads_now asked result
     answered_circuit {told} circuit result read files counts tells other few says fails =
         answered read result files counts
@@ -224,8 +203,7 @@ module _ (command : Command) (by_name : form_of command ≢ forms.Demo) where
 
 -- what is said of a circuit and its delays is said of what tells them
 pub says_timed : (Says : Circuit → Tech → ℕ → List ℕ → Type 0) (told : Told) (circuit : Circuit)
-    (tech : Tech) (result : Result Answer Failure) → TellsCircuit told circuit
-    → TellsTech told tech
+    (tech : Tech) (result : Result Answer Failure) → TellsCircuit told circuit → TellsTech told tech
     → IfOk result (λ answer. Says circuit tech (ending_status answer.ending) answer.text.items)
     → IfOk result (λ answer. IsTimedSo told (λ circuit tech.
     Says circuit tech (ending_status answer.ending) answer.text.items))
@@ -235,8 +213,7 @@ says_timed Says told circuit tech (Err failure) tells delays says = tt
 
 -- beside a status
 pub says_done : (Says : Circuit → Tech → List ℕ → Type 0) (told : Told) (circuit : Circuit)
-    (tech : Tech) (result : Result Answer Failure) → TellsCircuit told circuit
-    → TellsTech told tech
+    (tech : Tech) (result : Result Answer Failure) → TellsCircuit told circuit → TellsTech told tech
     → IfOk result (λ answer. (ending_status answer.ending ≡ 0)
     × Says circuit tech answer.text.items)
     → IfOk result (λ answer. (ending_status answer.ending ≡ 0) × IsTimedSo told (λ circuit tech.

@@ -1,26 +1,14 @@
 -- The lines of wire of a session, one for the places as they are and one after each move.
-use Rattle.std.proofs.Common.{◌≡◌, ℕ, ℤ, List, [], ◌∷◌, ◌++◌, length, map, refl, ap, sym, subst, ◌∙◌}
-use Rattle.std.specs.List.{All}
-use Rattle.std.proofs.lemmas.List.{map_push}
+use Rattle.cts_program.proofs.Vocabulary.{◌≡◌, ℕ, ℤ, List, [], ◌∷◌, ◌++◌, length, map, refl, ap, sym, subst, ◌∙◌, All, map_push, Problem, line_of, text_of, length-sinks_of, Move, IsSessionOf, StandsAt, near_coordinate, wire_line, AreWires, IsTreeWire, IsWireAt, IsWiresText, moved_places, AppendsWire, IsNearMove, AcceptsMoves}
 use Rattle.cts_base.specs.declared.fraction.Fraction.{Fraction}
 use Rattle.cts_model.specs.declared.place.Point.{Point}
-use Rattle.cts_model.specs.declared.problem.Problem.{Problem}
 use Rattle.cts_model.specs.declared.schedule.Schedule.{Schedule}
 use Rattle.cts_model.specs.declared.tree.Merge.{Merge}
 use Rattle.cts_model.specs.tree.GreedyMerges.{IsGreedy}
-use Rattle.cts_model.specs.text.PrintedLines.{line_of, text_of}
 use Rattle.cts_model.specs.tree.Problems.{sinks_of}
-use Rattle.cts_model.proofs.SkewLemmas.{length-sinks_of}
-use Rattle.move_session.specs.declared.moves.Move.{Move}
 use Rattle.move_session.specs.Sessions.{SessionState}
 use Rattle.move_session.proofs.ToldMoves.{IsToldMove, each_told}
-use Rattle.cts_engine.specs.SessionOutcomes.{IsSessionOf, StandsAt}
-use Rattle.cts_engine.proofs.ProblemLemmas.{near_coordinate}
-use Rattle.report_text.specs.WireLines.{wire_line}
 use Rattle.report_text.proofs.LineLemmas.{one_line, text_of-push}
-use Rattle.answer_texts.specs.MoveTexts.{AreWires, IsTreeWire, IsWireAt, IsWiresText, moved_places}
-use Rattle.cts_program.specs.MoveSteps.{AppendsWire, IsNearMove}
-use Rattle.move_session.specs.Moves.{AcceptsMoves}
 
 -- ---- moves that were read
 

@@ -1,15 +1,7 @@
 -- The delay table that a document denotes.
-use Rattle.std.proofs.Common.{◌≡◌, ℕ, ℤ, pos, ◌*ℤ◌, FitsSigned, of_z, to_z, List, [], ◌∷◌, map, codes, None, ◌∙◌}
+use Rattle.delay_tables.proofs.Vocabulary.{◌≡◌, ℕ, ℤ, pos, ◌*ℤ◌, FitsSigned, of_z, to_z, List, [], ◌∷◌, map, codes, None, ◌∙◌, to_z-of_z, option_or, Members, IsLowest, IsWithin, IsTable, sections, gate_kinds, number_at, numerator_of, denominator_of, gate_delay_at, first_flaw, section_flaw, register_flaw, gate_flaw}
 use mir.Syntax.{w128}
-use Rattle.std.proofs.lemmas.Int.{to_z-of_z}
-use Rattle.std.specs.Option.{option_or}
-use Rattle.toml.specs.Data.{Members}
-use Rattle.cts_base.specs.Fractions.{IsLowest}
 use Rattle.cts_model.specs.declared.tech.GateDelay.{GateDelay}
-use Rattle.cts_model.specs.table.Tables.{IsWithin, IsTable}
-use Rattle.cts_model.specs.table.TableKeys.{sections, gate_kinds}
-use Rattle.cts_model.specs.table.TableValues.{number_at, numerator_of, denominator_of, gate_delay_at}
-use Rattle.cts_model.specs.table.TableFlaws.{first_flaw, section_flaw, register_flaw, gate_flaw}
 use Rattle.delay_tables.proofs.FlawlessTables.{is_top_within, registers_ordered, gates_within, orders}
 
 -- the numbers of a table are those that a document denotes
@@ -28,8 +20,7 @@ pub is_table : (document : Members) (num den : ℤ)
     → first_flaw (section_flaw document) sections ≡ None
     → option_or (register_flaw document) (first_flaw (gate_flaw document) gate_kinds) ≡ None
     → IsWithin 1 1000000 num → IsWithin 1 1000000 den → IsLowest num den
-    → wire_num ≡ num → wire_den ≡ den
-    → AreDenoted document setup hold least greatest floor gates
+    → wire_num ≡ num → wire_den ≡ den → AreDenoted document setup hold least greatest floor gates
     → IsTable wire_num wire_den setup hold least greatest floor gates
 is_table document num den wire_num wire_den setup hold least greatest floor gates none in_order
     some_num some_den lowest num_is den_is denoted =

@@ -1,22 +1,11 @@
 -- What a document in which nothing is wrong gives is within the ranges of a delay table.
-use Rattle.std.proofs.Common.{◌≡◌, ℕ, ℤ, pos, negsuc, ◌≤ℤ◌, Bool, true, false, not, cond, ◌&&◌, ◌||◌, zero, suc, List, [], ◌∷◌, map, codes, Option, Some, None, IfSome, is_some, is_none, IsTrue, get_or, unwrap_or, int_lt, refl, sym, ap, ◌∙◌, arith}
-use Rattle.std.proofs.lemmas.Bool.{leb-true, false≢true}
-use Rattle.std.proofs.lemmas.Int.{ints}
+use Rattle.delay_tables.proofs.Vocabulary.{◌≡◌, ℕ, ℤ, pos, negsuc, ◌≤ℤ◌, Bool, true, false, not, cond, ◌&&◌, ◌||◌, zero, suc, List, [], ◌∷◌, map, codes, Option, Some, None, IfSome, is_some, is_none, IsTrue, get_or, unwrap_or, int_lt, refl, sym, ap, ◌∙◌, arith, leb-true, false≢true, ints, All, AllByRecursion, option_or, option_and_then, option_map_or, Data, Members, as_str, as_integer, get_member, And, Nand, Or, Nor, Not, Xor, Xnor, Buff, Input, Dff, Host, Tech, GivesKinds, IsWithin, IsGateDelay, Fraction, UpTo, Need, Always, InTable, Optional, Key, Section, key, sections, top_sections, gate_section, gate_kinds, gate_way, word_of, dotted, value_at, table_at, text_at, number_at, is_fraction, is_small_fraction, is_up_to, has_form, is_in_range, gate_delay_at, TableFlaw, WrongType, first_flaw, value_flaw, absence_flaw, key_flaw, way_flaw, section_flaw, register_flaw, gate_flaw, is_disordered, order_flaw, kind_flaw, name_flaw, table_flaw}
 use Rattle.std.proofs.lemmas.List.Elements.{All-from_recursion}
-use Rattle.std.specs.List.{All, AllByRecursion}
-use Rattle.std.specs.Option.{option_or, option_and_then, option_map_or}
-use Rattle.toml.specs.Data.{Data, Members, as_str, as_integer, get_member}
 use Rattle.cts_model.specs.declared.kind.Kind.{Kind}
-use Rattle.cts_model.specs.declared.kind.Kind.TheVariants.{And, Nand, Or, Nor, Not, Xor, Xnor, Buff, Input, Dff, Host}
-use Rattle.cts_model.specs.declared.tech.Tech.{Tech}
 use Rattle.cts_model.specs.netlist.Kinds.{is_gate, place_of}
 use Rattle.cts_model.specs.timing.Delays.{no_delay}
-use Rattle.cts_model.specs.table.AcceptedTables.{GivesKinds}
-use Rattle.cts_model.specs.table.Tables.{IsWithin, IsGateDelay}
-use Rattle.cts_model.specs.table.TableKeys.{Fraction, UpTo, Need, Always, InTable, Optional, Key, Section, key, sections, top_sections, gate_section, gate_kinds, gate_way, word_of}
 use Rattle.delay_tables.proofs.Judgements.{flaws-sections}
-use Rattle.cts_model.specs.table.TableValues.{dotted, value_at, table_at, text_at, number_at, is_fraction, is_small_fraction, is_up_to, has_form, is_in_range, gate_delay_at}
-use Rattle.cts_model.specs.table.TableFlaws.{TableFlaw, Missing, WrongType, OutOfRange, LeastAboveGreatest, MissingKind, first_flaw, value_flaw, absence_flaw, key_flaw, way_flaw, section_flaw, register_flaw, gate_flaw, is_disordered, order_flaw, kind_flaw, name_flaw, table_flaw}
+use Rattle.cts_model.specs.table.TableFlaws.{Missing, OutOfRange, LeastAboveGreatest, MissingKind}
 
 -- where neither is, the first isn't, and the second isn't
 neither : (first second : Option TableFlaw) → option_or first second ≡ None
@@ -112,8 +101,7 @@ key_in_section document section place none =
     (first_flaw (key_flaw section.way document) section.keys) none).1
 
 key_in : (document : Members) (tables : List Section) (place key_place : ℕ)
-    → first_flaw (section_flaw document) tables ≡ None
-    → IfSome (item_at tables place) (λ section.
+    → first_flaw (section_flaw document) tables ≡ None → IfSome (item_at tables place) (λ section.
     IfSome (item_at section.keys key_place) (λ here. key_flaw section.way document here ≡ None))
 key_in document [] place key_place none = tt
 key_in document (section ∷ tables) zero key_place none = key_in_section document section key_place

@@ -1,18 +1,10 @@
 -- Numbers in digits, and fractions of small ones.
-use Rattle.std.proofs.Common.{◌≡◌, ℕ, ◌+◌, ◌-◌, ◌*◌, ◌<◌, ◌≤◌, min, ℤ, pos, negsuc, ◌*ℤ◌, ◌≤ℤ◌, nat_abs, Bool, true, false, List, length, take, get_or, refl, sym, ◌∙◌, arith}
-use Rattle.std.proofs.lemmas.Bool.{and_parts, false≢true}
+use Rattle.delay_tables.proofs.Vocabulary.{◌≡◌, ℕ, ◌+◌, ◌-◌, ◌*◌, ◌<◌, ◌≤◌, min, ℤ, pos, negsuc, ◌*ℤ◌, ◌≤ℤ◌, nat_abs, Bool, true, false, List, length, take, get_or, refl, sym, ◌∙◌, arith, and_parts, false≢true, ints, is_ascii_digit, list_all, digits_value, IsWithin, is_between, is_small_fraction, numerator_of, denominator_of, some_factor, other_sign}
 use Rattle.std.proofs.lemmas.Bool.Decides.{nat_tests}
-use Rattle.std.proofs.lemmas.Int.{ints}
 use Rattle.std.proofs.lemmas.Int.Digits.{digits_value_more}
 use Rattle.std.proofs.lemmas.List.Folds.{list_all_at}
 use Rattle.std.proofs.lemmas.Str.{digit_value_digit}
-use Rattle.std.specs.Char.{is_ascii_digit}
 use Rattle.std.specs.Int.{IsInRange}
-use Rattle.std.specs.List.{list_all}
-use Rattle.std.specs.Str.Parse.{digits_value}
-use Rattle.cts_model.specs.table.Tables.{IsWithin}
-use Rattle.cts_model.specs.table.TableValues.{is_between, is_small_fraction, numerator_of, denominator_of}
-use Rattle.cts_base.proofs.OneFraction.{some_factor, other_sign}
 
 -- what the test of a range says
 between : (low high number : ℕ) → is_between low high number ≡ true → IsInRange low high number

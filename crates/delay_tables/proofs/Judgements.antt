@@ -1,15 +1,6 @@
 -- The first flaw of several that are judged in order.
-use Rattle.std.proofs.Common.{◌≡◌, ℕ, ◌+◌, ◌<◌, ◌≤◌, Bool, true, false, cond, List, [], ◌∷◌, ◌++◌, length, take, drop, get_or, map, Bor, Option, Some, None, Result, refl, sym, ap, ◌∙◌, subst}
-use Rattle.std.proofs.lemmas.List.{drop_more, drop_all, take_more, map-append}
-use Rattle.std.specs.Option.{option_or}
-use Rattle.toml.specs.Data.{Members}
-use Rattle.cts_model.specs.table.TableValues.{dotted, value_at}
-use Rattle.cts_model.specs.table.TableFlaws.{TableFlaw, WrongType, first_flaw, section_flaw, way_flaw, is_no_table}
-use Rattle.cts_model.specs.table.TableKeys.{sections, top_sections, gate_section, gate_kinds}
-use Rattle.delay_tables.specs.declared.fault.TechFault.{TechFault}
+use Rattle.delay_tables.proofs.Vocabulary.{◌≡◌, ℕ, ◌+◌, ◌<◌, ◌≤◌, Bool, true, false, cond, List, [], ◌∷◌, ◌++◌, length, take, drop, get_or, map, Bor, Option, Some, None, Result, refl, sym, ap, ◌∙◌, subst, drop_more, drop_all, take_more, map-append, option_or, Members, dotted, value_at, TableFlaw, WrongType, first_flaw, section_flaw, way_flaw, is_no_table, sections, top_sections, gate_section, gate_kinds, TechFault, texts, IsFaultOf, Judges}
 use Rattle.delay_tables.specs.declared.fault.TechFault.TheVariants as fault
-use Rattle.delay_tables.specs.Keys.{texts}
-use Rattle.delay_tables.specs.Refusals.{IsFaultOf, Judges}
 
 -- a fault of the first flaw is one of the whole
 pub fault_first : (flaw next : Option TableFlaw) (found : TechFault) → IsFaultOf flaw found
@@ -106,7 +97,6 @@ judges_next result whole flaw next is none judges =
 
 -- the same of a list as it stands
 pub flaws_from : {X : Type 0} (flaw : X → Option TableFlaw) (xs : List X) (place : ℕ) (other : X)
-    → place < length xs
-    → first_flaw flaw (drop place xs)
+    → place < length xs → first_flaw flaw (drop place xs)
     ≡ option_or (flaw (get_or xs place other)) (first_flaw flaw (drop (place + 1) xs))
 flaws_from flaw xs place other within = ap (first_flaw flaw) (drop_more xs place other within)

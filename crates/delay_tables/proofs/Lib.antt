@@ -1,3 +1,4 @@
+mod Vocabulary
 mod FlawlessTables
 mod Fractions
 mod Judgements

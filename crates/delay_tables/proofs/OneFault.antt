@@ -1,13 +1,7 @@
 -- A table has one fault at the most, and an accepted one has none.
-use Rattle.std.proofs.Common.{◌≡◌, ◌≢◌, ◌⊎◌, inl, inr, ℕ, Bool, List, Some, None, Result, Ok, Err, IfOk, IfErr, IsErrAnd, IsOkUnless, IfOk, refl, sym, ap, ◌∙◌}
-use Rattle.toml.specs.Data.{Members}
-use Rattle.cts_model.specs.declared.tech.Tech.{Tech}
-use Rattle.cts_model.specs.table.TableFlaws.{TableFlaw, table_flaw}
+use Rattle.delay_tables.proofs.Vocabulary.{◌≡◌, ◌≢◌, ◌⊎◌, inl, inr, ℕ, Bool, List, Some, None, Result, Ok, Err, IfOk, IfErr, IsErrAnd, IsOkUnless, refl, sym, ap, ◌∙◌, Members, Tech, TableFlaw, table_flaw, IsDocument, IsNotToml, HasFlaw, IsDelayTable, AcceptsTable, TechFault, RefusesTable, IsFaultOf, DenotesName}
 use Rattle.cts_model.specs.table.TableFlaws as flaws
-use Rattle.cts_model.specs.table.AcceptedTables.{IsDocument, IsNotToml, HasFlaw, IsDelayTable, AcceptsTable}
-use Rattle.delay_tables.specs.declared.fault.TechFault.{TechFault}
 use Rattle.delay_tables.specs.declared.fault.TechFault.TheVariants.{NotToml, Missing, WrongType, OutOfRange, LeastAboveGreatest, MissingKind, UnknownKey, NoMemory}
-use Rattle.delay_tables.specs.Refusals.{RefusesTable, IsFaultOf, DenotesName}
 use Rattle.cts_model.proofs.TableLemmas.{disorder_of_table, unknown_of_table}
 
 -- the fault of a flaw

@@ -1,13 +1,6 @@
 -- The bytes of a delay table tell one table: a fraction has lowest terms in one way.
-use Rattle.std.proofs.Common.{◌≡◌, ℕ, ◌*◌, ◌/◌, ◌<◌, ℤ, pos, negsuc, ◌*ℤ◌, ◌≤ℤ◌, List, [], ◌∷◌, codes, Bool, sym, ap, ◌∙◌, subst, arith}
+use Rattle.delay_tables.proofs.Vocabulary.{◌≡◌, ℕ, ◌*◌, ◌/◌, ◌<◌, ℤ, pos, negsuc, ◌*ℤ◌, ◌≤ℤ◌, List, [], ◌∷◌, codes, Bool, sym, ap, ◌∙◌, subst, arith, ints, Members, IsLowest, one_fraction, Tech, text_at, numerator_of, denominator_of, DenotesTable, AcceptsTable}
 use Rattle.std.proofs.Math.Nat.{mul-div_cancel}
-use Rattle.std.proofs.lemmas.Int.{ints}
-use Rattle.toml.specs.Data.{Members}
-use Rattle.cts_base.specs.Fractions.{IsLowest}
-use Rattle.cts_base.proofs.OneFraction.{one_fraction}
-use Rattle.cts_model.specs.declared.tech.Tech.{Tech}
-use Rattle.cts_model.specs.table.TableValues.{text_at, numerator_of, denominator_of}
-use Rattle.cts_model.specs.table.AcceptedTables.{DenotesTable, AcceptsTable}
 use Rattle.cts_model.proofs.OneRecord.{same_tech}
 use Rattle.delay_tables.proofs.FlawlessTables.{is_flawless, is_top_within}
 use Rattle.delay_tables.proofs.Fractions.{small_denominator}

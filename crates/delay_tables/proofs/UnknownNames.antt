@@ -1,19 +1,12 @@
 -- The least of the names in a document that are no keys.
-use Rattle.std.proofs.Common.{◌≡◌, ℕ, ◌+◌, ◌<◌, Bool, true, false, not, ◌||◌, cond, List, [], ◌∷◌, ◌++◌, length, drop, get_or, map, Bor, Option, None, codes, String, Global, string_bytes, refl, sym, ap, ◌∙◌}
-use Rattle.std.proofs.lemmas.List.{drop_more}
+use Rattle.delay_tables.proofs.Vocabulary.{◌≡◌, ℕ, ◌+◌, ◌<◌, Bool, true, false, not, ◌||◌, cond, List, [], ◌∷◌, ◌++◌, length, drop, get_or, map, Bor, Option, None, codes, String, Global, string_bytes, refl, sym, ap, ◌∙◌, drop_more, fold, flat_map, list_any, Members, members_view, dotted, names_in, unknown_of, unknown_at, unknown_in_section, unknown_names, lesser_name, least_name, texts, keys_of}
 use Rattle.std.proofs.lemmas.List.Sums.{fold-append}
 use Rattle.std.proofs.lemmas.Grind.{flat_map-append}
-use Rattle.std.specs.List.{fold, flat_map, list_any}
 use Rattle.std.specs.Map as maps
 use Rattle.std.specs.Str.{bytes_eq}
-use Rattle.toml.specs.Data.{Members}
-use Rattle.toml.specs.View.{members_view}
 use Rattle.toml.specs.declared.value.Value.{Value}
-use Rattle.cts_model.specs.table.TableValues.{dotted}
-use Rattle.cts_model.specs.table.TableFlaws.{names_in, unknown_of, unknown_at, unknown_in_section, unknown_names, lesser_name, least_name}
 use Rattle.cts_model.specs.table.TableKeys as tables
 use Rattle.delay_tables.specs.declared.keys.Key.{Key}
-use Rattle.delay_tables.specs.Keys.{texts, keys_of}
 
 known_is : (name : List ℕ) (known : List (Bor (List ℕ)))
     → list_any (bytes_eq name) (texts known) ≡ list_any (λ other. bytes_eq name other.now) known
@@ -27,8 +20,7 @@ passed least way name true is = refl
 passed least way name false is = cc
 
 taken : (least : Option (List ℕ)) (way : List (List ℕ)) (name : List ℕ) (among : Bool)
-    → among ≡ false
-    → lesser_name least (dotted way name)
+    → among ≡ false → lesser_name least (dotted way name)
     ≡ fold lesser_name least (map (dotted way) (cond (not among) (name ∷ []) []))
 taken least way name true is = cc
 taken least way name false is = refl
@@ -49,8 +41,7 @@ unknown_taken least way name known is =
     taken least way name (list_any (bytes_eq name) (texts known)) (known_is name known ∙ is)
 
 first_apart : (least : Option (List ℕ)) (way : List (List ℕ)) (name : List ℕ) (rest : List (List ℕ))
-    (among : Bool)
-    → fold lesser_name least (map (dotted way) (cond (not among) (name ∷ rest) rest))
+    (among : Bool) → fold lesser_name least (map (dotted way) (cond (not among) (name ∷ rest) rest))
     ≡ fold lesser_name (fold lesser_name least (map (dotted way) (cond (not among) (name ∷ []) [])))
     (map (dotted way) rest)
 first_apart least way name rest true = refl

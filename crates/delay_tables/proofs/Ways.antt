@@ -1,8 +1,5 @@
 -- Names that lead to a table, one after the other.
-use Rattle.std.proofs.Common.{◌≡◌, ℕ, ◌+◌, ◌<◌, ◌≤◌, List, [], ◌∷◌, ◌++◌, length, drop, get_or, Bor, sym, ap, ◌∙◌, append_assoc}
-use Rattle.std.proofs.lemmas.List.{append-nil, drop_more, drop_all}
-use Rattle.std.specs.List.{flat_map}
-use Rattle.delay_tables.specs.Keys.{texts}
+use Rattle.delay_tables.proofs.Vocabulary.{◌≡◌, ℕ, ◌+◌, ◌<◌, ◌≤◌, List, [], ◌∷◌, ◌++◌, length, drop, get_or, Bor, sym, ap, ◌∙◌, append_assoc, append-nil, drop_more, drop_all, flat_map, texts}
 
 -- each name with a dot after it
 abbrev pub dots : List (Bor (List ℕ)) → List ℕ

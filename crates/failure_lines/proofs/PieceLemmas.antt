@@ -72,8 +72,7 @@ prefix_of_more before now bytes more part = record {
 -- prefix of it
 pub writes_after : {T E : Type 0} (result : Result T E) (before mid now : Option (List ℕ))
     (count counted counted_now : ℕ) (prefix rest : List ℕ) → mid ≡ appended before prefix
-    → count ≤ counted
-    → Writes rest mid counted now counted_now result
+    → count ≤ counted → Writes rest mid counted now counted_now result
     → Writes (prefix ++ rest) before count now counted_now result
 writes_after (Ok x) before mid now count counted counted_now prefix rest there more (whole, rose) =
     (whole ∙ ap (λ m. appended m rest) there ∙ appended-appended before prefix rest, omega arith)

@@ -1,10 +1,6 @@
 -- Lists of distinct numbers the other way round, in part and rotated, and the lowest number of a
 -- rotated list.
-use Rattle.std.proofs.Common.{ℕ, ◌≡◌, ◌≢◌, ◌<◌, ◌≤◌, ◌+◌, ◌-◌, List, ◌++◌, length, get_or, take, drop, reverse, refl, sym, ◌∙◌, ap, subst, arith, add-zero, All, AllPairs, ⊎_elim}
-use Rattle.std.proofs.lemmas.Bool.{cases_lt}
-use Rattle.std.specs.Prelude.{slice_index}
-use Rattle.std.proofs.lemmas.List.Elements.{All-append, All-take, All-drop}
-use Rattle.std.proofs.lemmas.List.{length-reverse, length-take, length-drop, length-append, get_or-reverse, get_or-take, get_or-drop, get_or_append_left, get_or-append-add, get_or-append_right}
+use Rattle.gate_order.proofs.Vocabulary.{ℕ, ◌≡◌, ◌≢◌, ◌<◌, ◌≤◌, ◌+◌, ◌-◌, List, ◌++◌, length, get_or, take, drop, reverse, refl, sym, ◌∙◌, ap, subst, arith, add-zero, All, AllPairs, ⊎_elim, cases_lt, slice_index, All-append, All-take, All-drop, length-reverse, length-take, length-drop, length-append, get_or-reverse, get_or-take, get_or-drop, get_or_append_left, get_or-append-add, get_or-append_right}
 
 -- no two places have the same number
 abbrev pub AreDistinct : List ℕ → Type 0

@@ -1,10 +1,5 @@
 -- The first number of a list that isn't 0.
-use Rattle.std.proofs.Common.{◌≡◌, ◌<◌, nat_lt, ℕ, Bool, true, false, cond, List, length, get_or, Some, None, position, inl, inr, refl, sym, arith}
-use Rattle.std.specs.List.{position_or_len}
-use Rattle.std.proofs.lemmas.Bool.{cases_lt, ltb-true, ltb-false}
-use Rattle.std.proofs.lemmas.List.{get_or_past}
-use Rattle.std.proofs.lemmas.List.Sums.{fails_before_first}
-use Rattle.std.proofs.lemmas.List.Quantifiers.{position-Some}
+use Rattle.gate_order.proofs.Vocabulary.{◌≡◌, ◌<◌, nat_lt, ℕ, Bool, true, false, cond, List, length, get_or, Some, None, position, inl, inr, refl, sym, arith, position_or_len, cases_lt, ltb-true, ltb-false, get_or_past, fails_before_first, position-Some}
 
 -- where there is none, all are 0
 pub all_idle : (waiting : List ℕ) → None ≡ position (λ number. nat_lt 0 number) waiting → (gate : ℕ)

@@ -1,13 +1,5 @@
 -- The gates that wait for none from the start.
-use Rattle.std.proofs.Common.{◌≡◌, ◌≢◌, ◌+◌, ◌<◌, ◌==◌, ◌&&◌, ℕ, Bool, true, false, cond, List, [], ◌∷◌, ◌++◌, get_or, All, Contains, inl, inr, refl, sym, ◌∙◌, subst, arith}
-use Rattle.std.proofs.lemmas.Bool.{cases_lt, and_parts, and_from, false≢true, eq-eqb, eqb-true}
-use Rattle.std.proofs.lemmas.List.{append-nil}
-use Rattle.std.proofs.lemmas.List.Elements.{All-nil, All-push, All-weaker, Contains-push, Contains-append_left}
-use Rattle.std.proofs.lemmas.List.Quantifiers.{all_pairs_push}
-use Rattle.cts_model.specs.declared.signal.Signal.{Signal}
-use Rattle.cts_model.specs.netlist.Paths.{IsGate}
-use Rattle.gate_order.specs.GateReads.{is_gate_at}
-use Rattle.gate_order.specs.Sorted.{AreIdleGates}
+use Rattle.gate_order.proofs.Vocabulary.{◌≡◌, ◌≢◌, ◌+◌, ◌<◌, ◌==◌, ◌&&◌, ℕ, Bool, true, false, cond, List, [], ◌∷◌, ◌++◌, get_or, All, Contains, inl, inr, refl, sym, ◌∙◌, subst, arith, cases_lt, and_parts, and_from, false≢true, eq-eqb, eqb-true, append-nil, All-nil, All-push, All-weaker, Contains-push, Contains-append_left, all_pairs_push, Signal, IsGate, is_gate_at, AreIdleGates}
 use Rattle.gate_order.proofs.ReadLemmas.{IsGate-from_test, test_from_IsGate}
 
 -- there are none below 0
@@ -23,8 +15,7 @@ AreIdleGates-none signals waiting = record {
 
 -- and one more number, where it is such a gate
 pub AreIdleGates-more : (signals : List Signal) (waiting : List ℕ) (number : ℕ) (order : List ℕ)
-    → AreIdleGates signals waiting number order
-    → AreIdleGates signals waiting (number + 1)
+    → AreIdleGates signals waiting number order → AreIdleGates signals waiting (number + 1)
     (order ++ cond (is_gate_at signals number && (get_or waiting number 0 == 0)) (number ∷ []) [])
 AreIdleGates-more signals waiting number order so_far =
     step (is_gate_at signals number && (get_or waiting number 0 == 0)) refl

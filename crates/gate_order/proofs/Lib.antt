@@ -1,3 +1,4 @@
+mod Vocabulary
 mod Tallies
 mod GroupLemmas
 pub mod ReadLemmas

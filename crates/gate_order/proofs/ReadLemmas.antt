@@ -1,17 +1,9 @@
 -- The pairs of a gate that is read and one that reads it: what each says, and that none is missing.
-use Rattle.std.proofs.Common.{◌≡◌, ◌+◌, ◌<◌, ◌≤◌, ℕ, zero, suc, Bool, true, false, cond, List, [], ◌∷◌, ◌++◌, length, take, get_or, All, Contains, Option, Some, None, IsSomeAnd, IsTrue, inl, inr, refl, sym, ◌∙◌, ap, subst, arith}
-use Rattle.std.specs.List.{cons_option, slice_get}
+use Rattle.gate_order.proofs.Vocabulary.{◌≡◌, ◌+◌, ◌<◌, ◌≤◌, ℕ, zero, suc, Bool, true, false, cond, List, [], ◌∷◌, ◌++◌, length, take, get_or, All, Contains, Option, Some, None, IsTrue, inl, inr, refl, sym, ◌∙◌, ap, subst, arith, cons_option, slice_get, cases_lt, take_more, length-append, sum_by_more, All-nil, All-cons, All-head, All-tail, All-append, All-contains_itself, Contains-append_left, Contains-append_right, filter_map-append, get_or_from_slice_get, slice_get_past, slice_get_within, Signal, IsGate, Reads, is_gate_at, reads_among, reads_by, IsRead, AreReads}
+use Rattle.std.proofs.Common.{IsSomeAnd}
 use Rattle.std.specs.Option.{option_map_or}
-use Rattle.std.proofs.lemmas.Bool.{cases_lt}
-use Rattle.std.proofs.lemmas.List.{take_more, length-append}
-use Rattle.std.proofs.lemmas.List.Sums.{sum_by_more}
-use Rattle.std.proofs.lemmas.List.Elements.{All-nil, All-cons, All-head, All-tail, All-append, All-contains_itself, Contains-append_left, Contains-append_right, filter_map-append}
-use Rattle.std.proofs.lemmas.Option.{get_or_from_slice_get, slice_get_past, slice_get_within}
-use Rattle.cts_model.specs.declared.signal.Signal.{Signal}
 use Rattle.cts_model.specs.netlist.Kinds.{is_gate}
 use Rattle.cts_model.specs.netlist.Circuits.{gate_inputs}
-use Rattle.cts_model.specs.netlist.Paths.{IsGate, Reads}
-use Rattle.gate_order.specs.GateReads.{is_gate_at, reads_among, reads_by, IsRead, AreReads}
 
 -- what the test of a number says
 pub IsGate-from_test : (signals : List Signal) (number : ℕ) → is_gate_at signals number ≡ true
@@ -53,8 +45,7 @@ IsGate-from_Reads signals gate read reads = at (slice_get signals gate) reads
 
 -- the pairs of one more input
 pub reads_among_more : (signals : List Signal) (gate : ℕ) (inputs : List ℕ) (i d : ℕ)
-    → i < length inputs
-    → reads_among signals gate (take (i + 1) inputs)
+    → i < length inputs → reads_among signals gate (take (i + 1) inputs)
     ≡ reads_among signals gate (take i inputs) ++ reads_among signals gate (get_or inputs i d ∷ [])
 reads_among_more signals gate inputs i d within =
     ap (reads_among signals gate) (take_more inputs i d within)
@@ -85,8 +76,7 @@ reads_among_are signals gate signal here is_one (input ∷ inputs) all =
     (All-tail (Contains signal.fan_in) input inputs all))
   where
     at : (b : Bool) → is_gate_at signals input ≡ b
-        → All (IsRead signals) (reads_among signals gate inputs)
-        → All (IsRead signals)
+        → All (IsRead signals) (reads_among signals gate inputs) → All (IsRead signals)
         (cons_option (cond b (Some (input, gate)) None) (reads_among signals gate inputs))
     at true passes rest =
         All-cons (IsRead signals) (input, gate) (reads_among signals gate inputs) (

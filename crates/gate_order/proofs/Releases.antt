@@ -1,13 +1,6 @@
 -- Gates that wait for one gate less each time one that they read is taken.
-use Rattle.std.proofs.Common.{◌≡◌, ◌≢◌, ◌+◌, ◌-◌, ◌<◌, ◌≤◌, ◌==◌, nat_lt, ℕ, Bool, true, false, cond, List, [], ◌∷◌, ◌++◌, length, take, get_or, set, All, Contains, inl, inr, refl, sym, ◌∙◌, ap, subst, arith}
-use Rattle.std.proofs.lemmas.Bool.Decides.{nat_tests}
-use Rattle.std.proofs.lemmas.Bool.{cases_eq, eq-eqb, ne_eqb, eqb-true, eqb-false}
-use Rattle.std.proofs.lemmas.List.{get_or-set_same, get_or-set_other, length-set, length_push, append-nil, append_assoc}
-use Rattle.std.proofs.lemmas.List.Sums.{sum_by-set, sum_by-take-le, count_by_more_yes, count_by_more_no}
-use Rattle.std.proofs.lemmas.List.Elements.{All-nil, All-push, All-weaker, Contains-push, Contains-append_left}
-use Rattle.std.proofs.lemmas.List.Quantifiers.{all_pairs_push}
+use Rattle.gate_order.proofs.Vocabulary.{◌≡◌, ◌≢◌, ◌+◌, ◌-◌, ◌<◌, ◌≤◌, ◌==◌, nat_lt, ℕ, Bool, true, false, cond, List, [], ◌∷◌, ◌++◌, length, take, get_or, set, All, Contains, inl, inr, refl, sym, ◌∙◌, ap, subst, arith, nat_tests, cases_eq, eq-eqb, ne_eqb, eqb-true, eqb-false, get_or-set_same, get_or-set_other, length-set, length_push, append-nil, append_assoc, sum_by-set, sum_by-take-le, count_by_more_yes, count_by_more_no, All-nil, All-push, All-weaker, Contains-push, Contains-append_left, all_pairs_push, waiting_count, times_in, IsReleased, CanRelease, AreReleased}
 use Rattle.gate_order.proofs.WaitingInputs.{waits_within}
-use Rattle.gate_order.specs.Sorted.{waiting_count, times_in, IsReleased, CanRelease, AreReleased}
 
 -- one number is one less, and the others are as they were
 record IsLowered (gate : ℕ) (waiting later : List ℕ) : Type 0 where

@@ -1,11 +1,5 @@
 -- Rings of gates: what closes one, and a ring that is rotated.
-use Rattle.std.proofs.Common.{ℕ, zero, suc, ◌≡◌, ◌<◌, ◌+◌, List, [], ◌∷◌, ◌++◌, ◌≤◌, length, take, drop, Some, refl, sym, subst, arith, All}
-use Rattle.std.proofs.lemmas.List.{length-append, length-take, take-append-drop}
-use Rattle.std.proofs.lemmas.Option.{slice_get_within}
-use Rattle.std.specs.Prelude.{IsSomeAnd, slice_index}
-use Rattle.std.specs.List.{slice_get}
-use Rattle.cts_model.specs.declared.signal.Signal.{Signal}
-use Rattle.cts_model.specs.netlist.Paths.{Follows, IsLoop, IsNamedLoop}
+use Rattle.gate_order.proofs.Vocabulary.{ℕ, zero, suc, ◌≡◌, ◌<◌, ◌+◌, List, [], ◌∷◌, ◌++◌, ◌≤◌, length, take, drop, Some, refl, sym, subst, arith, All, length-append, length-take, take-append-drop, slice_get_within, IsSomeAnd, slice_index, slice_get, Signal, Follows, IsLoop, IsNamedLoop}
 use Rattle.gate_order.proofs.Distinct.{AreDistinct, distinct_rotated}
 
 -- a chain of two parts has a gate where they meet

@@ -1,15 +1,5 @@
 -- The gates of a circuit in the order in which they stop waiting, one taken after the other.
-use Rattle.std.proofs.Common.{◌≡◌, ◌≢◌, ◌+◌, ◌-◌, ◌<◌, ◌≤◌, ◌==◌, ℕ, false, List, [], ◌∷◌, ◌++◌, length, take, get_or, count_by, All, AllPairs, Contains, Some, inl, inr, refl, sym, ◌∙◌, ap, subst, arith}
-use Rattle.std.specs.List.{slice_get}
-use Rattle.std.proofs.lemmas.Bool.{cases_lt, false_from_ne_true, false≢true}
-use Rattle.std.proofs.lemmas.List.{take_more, take-append-le, take_all, length-take, get_or-take, get_or_append_left, get_or-append_right, length-append}
-use Rattle.std.proofs.lemmas.List.Elements.{All-append, All-same, All-weaker, All-contains, Contains-get_or, Contains-append_left, Contains-append_right}
-use Rattle.std.proofs.lemmas.Option.{slice_get_within, get_or_from_slice_get, slice_get-get_or}
-use Rattle.cts_model.specs.declared.signal.Signal.{Signal}
-use Rattle.cts_model.specs.netlist.Paths.{IsGate, Reads}
-use Rattle.gate_order.specs.Grouped.{values_at}
-use Rattle.gate_order.specs.GateReads.{IsRead, AreReads}
-use Rattle.gate_order.specs.Sorted.{CanRelease, AreReleased, AreIdleGates, IsSorted}
+use Rattle.gate_order.proofs.Vocabulary.{◌≡◌, ◌≢◌, ◌+◌, ◌-◌, ◌<◌, ◌≤◌, ◌==◌, ℕ, false, List, [], ◌∷◌, ◌++◌, length, take, get_or, count_by, All, AllPairs, Contains, Some, inl, inr, refl, sym, ◌∙◌, ap, subst, arith, slice_get, cases_lt, false_from_ne_true, false≢true, take_more, take-append-le, take_all, length-take, get_or-take, get_or_append_left, get_or-append_right, length-append, All-append, All-same, All-weaker, All-contains, Contains-get_or, Contains-append_left, Contains-append_right, slice_get_within, get_or_from_slice_get, slice_get-get_or, Signal, IsGate, Reads, values_at, IsRead, AreReads, CanRelease, AreReleased, AreIdleGates, IsSorted}
 use Rattle.gate_order.proofs.ReadLemmas.{IsGate-from_Reads, gate_within}
 use Rattle.gate_order.proofs.Unmet.{is_among, unmet, waits_for, all_met, unmet_more, unmet_none, Contains-from_test, test_from_Contains}
 

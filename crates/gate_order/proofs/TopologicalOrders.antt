@@ -1,12 +1,5 @@
 -- Gates in an order in which each comes after the gates that it reads form no loop.
-use Rattle.std.proofs.Common.{◌≡◌, ◌≢◌, ◌<◌, ◌≤◌, ℕ, List, [], ◌∷◌, AllPairs, Contains, Some, inl, inr, sym, ◌∙◌, ap, subst, arith}
-use Rattle.std.specs.List.{slice_get}
-use Rattle.std.proofs.lemmas.Bool.{cases_order}
-use Rattle.std.proofs.lemmas.List.{get_or-take, length-take}
-use Rattle.std.proofs.lemmas.Option.{slice_get_within, slice_get-get_or, get_or_from_slice_get}
-use Rattle.cts_model.specs.declared.signal.Signal.{Signal}
-use Rattle.cts_model.specs.netlist.Paths.{IsGate, Reads, Follows, IsLoop}
-use Rattle.gate_order.specs.Orders.{IsTopologicalOrder}
+use Rattle.gate_order.proofs.Vocabulary.{◌≡◌, ◌≢◌, ◌<◌, ◌≤◌, ℕ, List, [], ◌∷◌, AllPairs, Contains, Some, inl, inr, sym, ◌∙◌, ap, subst, arith, slice_get, cases_order, get_or-take, length-take, slice_get_within, slice_get-get_or, get_or_from_slice_get, Signal, IsGate, Reads, Follows, IsLoop, IsTopologicalOrder}
 use Rattle.gate_order.proofs.ReadLemmas.{IsGate-from_Reads}
 
 -- a gate stands at one place only

@@ -1,11 +1,6 @@
 -- How many pairs still hold a gate back: those of a gate that it reads and that isn't taken yet.
-use Rattle.std.proofs.Common.{◌≡◌, ◌+◌, ◌<◌, ◌≤◌, ◌==◌, ◌&&◌, ◌||◌, nat_eq, not, ℕ, zero, suc, Bool, true, false, cond, List, [], ◌∷◌, ◌++◌, map, filter, count_by, Contains, inl, inr, refl, sym, ◌∙◌, ap, subst, arith}
-use Rattle.std.specs.List.{list_any, sum_by}
-use Rattle.std.proofs.lemmas.Bool.{eqb-true, eq-eqb, and_parts, false≢true, not-true, or_cases, or_left, or_right}
-use Rattle.std.proofs.lemmas.List.Sums.{sum_by-cons, get_or-le-sum_by}
+use Rattle.gate_order.proofs.Vocabulary.{◌≡◌, ◌+◌, ◌<◌, ◌≤◌, ◌==◌, ◌&&◌, ◌||◌, nat_eq, not, ℕ, zero, suc, Bool, true, false, cond, List, [], ◌∷◌, ◌++◌, map, filter, count_by, Contains, inl, inr, refl, sym, ◌∙◌, ap, subst, arith, list_any, sum_by, eqb-true, eq-eqb, and_parts, false≢true, not-true, or_cases, or_left, or_right, sum_by-cons, get_or-le-sum_by, values_at, times_in}
 use Rattle.std.proofs.lemmas.List.Folds.{list_any-append}
-use Rattle.gate_order.specs.Grouped.{values_at}
-use Rattle.gate_order.specs.Sorted.{times_in}
 use Rattle.gate_order.proofs.Tallies.{sum_by_split}
 
 -- whether a number stands in a list

@@ -1,12 +1,6 @@
 -- The first input of a gate that waits.
-use Rattle.std.proofs.Common.{ℕ, zero, suc, ◌≡◌, ◌<◌, Bool, true, false, cond, List, [], ◌∷◌, length, Some, refl, sym, subst, arith, get_or, nat_lt}
-use Rattle.std.specs.Prelude.{IsSome, Contains, find, slice_get, slice_index}
-use Rattle.std.proofs.lemmas.List.{get_or_past}
-use Rattle.std.proofs.lemmas.Option.{slice_get_read}
-use Rattle.std.proofs.lemmas.Bool.Decides.{nat_tests}
-use Rattle.cts_model.specs.declared.signal.Signal.{Signal}
-use Rattle.cts_model.specs.netlist.Paths.{Reads}
-use Rattle.gate_order.specs.Orders.{AllWait}
+use Rattle.gate_order.proofs.Vocabulary.{ℕ, zero, suc, ◌≡◌, ◌<◌, Bool, true, false, cond, List, [], ◌∷◌, length, Some, refl, sym, subst, arith, get_or, nat_lt, IsSome, find, slice_index, get_or_past, slice_get_read, nat_tests, Signal, Reads, AllWait}
+use Rattle.std.specs.Prelude.{Contains, slice_get}
 
 -- the first item that passes is one of the items, and passes
 found_passes : (passes : ℕ → Bool) (items : List ℕ) (item : ℕ) → find passes items ≡ Some item

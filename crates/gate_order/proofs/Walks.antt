@@ -1,13 +1,7 @@
 -- The walk from a gate that waits to one that it reads and that waits too, until a gate comes
 -- again.
-use Rattle.std.proofs.Common.{ℕ, ◌≡◌, ◌≢◌, ◌<◌, ◌≤◌, ◌+◌, ◌-◌, Bool, true, false, not, List, [], ◌∷◌, ◌++◌, length, get_or, set, take, drop, reverse, Some, sym, ◌∙◌, ap, subst, arith, All, Contains, ⊎_elim, true≢false}
-use Rattle.std.specs.Prelude.{count_by, slice_get, slice_index}
-use Rattle.std.proofs.lemmas.List.{reverse-append, length-reverse, get_or-reverse, length-set, get_or-set_same, get_or-set_other, get_or_default, get_or_push, get_or_append_left, length_push}
-use Rattle.std.proofs.lemmas.List.Elements.{Contains-push, Contains-append_left}
-use Rattle.std.proofs.lemmas.List.Quantifiers.{all_pairs_push}
-use Rattle.std.proofs.lemmas.Bool.{cases_eq, cases_lt}
-use Rattle.cts_model.specs.declared.signal.Signal.{Signal}
-use Rattle.cts_model.specs.netlist.Paths.{Reads, Follows, IsNamedLoop}
+use Rattle.gate_order.proofs.Vocabulary.{ℕ, ◌≡◌, ◌≢◌, ◌<◌, ◌≤◌, ◌+◌, ◌-◌, Bool, true, false, not, List, [], ◌∷◌, ◌++◌, length, get_or, set, take, drop, reverse, Some, sym, ◌∙◌, ap, subst, arith, All, Contains, ⊎_elim, true≢false, slice_index, reverse-append, length-reverse, get_or-reverse, length-set, get_or-set_same, get_or-set_other, get_or_default, get_or_push, get_or_append_left, length_push, Contains-push, Contains-append_left, all_pairs_push, cases_eq, cases_lt, Signal, Reads, Follows, IsNamedLoop}
+use Rattle.std.specs.Prelude.{count_by, slice_get}
 use Rattle.gate_order.proofs.Distinct.{AreDistinct, distinct_reverse, distinct_take}
 use Rattle.gate_order.proofs.WaitingInputs.{waits_within}
 use Rattle.gate_order.proofs.Rings.{cut_ring, named_rotated}
@@ -91,8 +85,7 @@ module _ {signals : List Signal} {waiting : List ℕ} {start : ℕ} {path : List
   -- the path back to a gate that comes again, rotated to its lowest number, is a ring as it is
   -- named
   pub named_ring : (place : ℕ) → slice_get (reverse path) place ≡ Some gate
-      → (turn : ℕ) (ring : List ℕ)
-      → ring
+      → (turn : ℕ) (ring : List ℕ) → ring
       ≡ drop turn (take (place + 1) (reverse path)) ++ take turn (take (place + 1) (reverse path))
       → All (λ number. slice_index ring 0 ≤ number) ring → IsNamedLoop signals ring
   named_ring place here turn ring rotated lowest =

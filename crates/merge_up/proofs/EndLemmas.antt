@@ -1,21 +1,8 @@
 -- The furthest sinks of a set to the four sides, and what they say of its reach and its shows.
-use Rattle.std.proofs.Common.{◌≡◌, ℕ, ◌≤◌, inl, inr, min, max, List, [], ◌∷◌, ◌++◌, Contains, Some, slice_get, filter_map, ℤ, ◌+ℤ◌, ◌-ℤ◌, neg_ℤ, ◌≤ℤ◌, sym, subst, ◌∙◌, arith}
-use Rattle.std.proofs.lemmas.Int.{ints, clamps, to_z-of_z}
-use Rattle.std.proofs.lemmas.List.Elements.{Contains-append_left, Contains-append_right, filter_map-append}
-use Rattle.std.specs.Int.{int_max, w128}
+use Rattle.merge_up.proofs.Vocabulary.{◌≡◌, ℕ, ◌≤◌, inl, inr, min, max, List, [], ◌∷◌, ◌++◌, Contains, Some, slice_get, filter_map, ℤ, ◌+ℤ◌, ◌-ℤ◌, neg_ℤ, ◌≤ℤ◌, sym, subst, ◌∙◌, arith, ints, clamps, to_z-of_z, Contains-append_left, Contains-append_right, filter_map-append, int_max, w128, kept, below_fits, Sink, cases_lt, ShowsMerge, sinks_of_u_show, sinks_of_v_show, span_is_symmetric, spread_is_reach, found_among, some_and, Extremes, IsExtremes, IsGreatest, IsLeastOf, spread, u_below, v_below, End, Ends, IsEnd, AreEnds, extremes_of, pair_of, u_back, v_back}
 use Rattle.tilted_rect.specs.Corners.{IsRect, IsSide}
-use Rattle.tilted_rect.proofs.CodeNumbers.{kept, below_fits}
-use Rattle.cts_model.specs.declared.place.Sink.{Sink}
-use Rattle.std.proofs.lemmas.Bool.{cases_lt}
 use Rattle.cts_model.specs.tree.Regions.{span, IsReach}
-use Rattle.cts_model.specs.tree.ShownReaches.{ShowsMerge}
-use Rattle.tilted_rect.proofs.SpanLemmas.{sinks_of_u_show, sinks_of_v_show, span_is_symmetric, spread_is_reach}
-use Rattle.cts_model.proofs.TopologyLemmas.{found_among, some_and}
-use Rattle.tilted_rect.specs.Extremes.{Extremes, IsExtremes, IsGreatest, IsLeastOf, spread, u_below, v_below}
 use Rattle.tilted_rect.proofs.ExtremeLemmas.{append_is_union, greatest_one, greatest_union}
-use Rattle.merge_up.specs.declared.end.End.{End}
-use Rattle.merge_up.specs.declared.ends.Ends.{Ends}
-use Rattle.merge_up.specs.Sides.{IsEnd, AreEnds, extremes_of, pair_of, u_back, v_back}
 
 -- ---- one side
 
@@ -181,8 +168,7 @@ side_kept {side} {value} is valid =
 
 -- a reach of half the spread leaves the sides in order
 pub sides_are_rect : (ends : Ends) (reach ulo uhi vlo vhi : ℤ)
-    → reach +ℤ reach ≡ spread (extremes_of ends)
-    → (ulo ≡ ends.high_u.far -ℤ reach) × IsSide ulo
+    → reach +ℤ reach ≡ spread (extremes_of ends) → (ulo ≡ ends.high_u.far -ℤ reach) × IsSide ulo
     → (uhi ≡ neg_ℤ ends.low_u.far +ℤ reach) × IsSide uhi
     → (vlo ≡ ends.high_v.far -ℤ reach) × IsSide vlo
     → (vhi ≡ neg_ℤ ends.low_v.far +ℤ reach) × IsSide vhi → IsRect ulo uhi vlo vhi

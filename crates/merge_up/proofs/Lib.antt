@@ -1,3 +1,4 @@
+mod Vocabulary
 mod EndLemmas
 pub mod SearchLemmas
 pub mod WorkLemmas

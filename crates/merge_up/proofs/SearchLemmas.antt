@@ -1,23 +1,8 @@
 -- A sink of a node that is furthest to a side, and where it is found.
-use Rattle.std.proofs.Common.{◌≡◌, ◌⊎◌, inl, inr, ℕ, zero, suc, ◌+◌, ◌-◌, ◌<◌, ◌≤◌, List, [], ◌∷◌, ◌++◌, Option, None, Some, unwrap_or, IfSome, Contains, IsSomeAnd, length, slice_get, refl, sym, ap, subst, ◌∙◌, ℤ, neg_ℤ, arith}
-use Rattle.std.proofs.lemmas.Int.{ints, to_z-of_z}
-use Rattle.std.proofs.lemmas.List.Elements.{All-contains, Contains-append_cases, Contains-append_left, Contains-append_right}
-use Rattle.cts_model.specs.declared.place.Sink.{Sink}
-use Rattle.cts_model.specs.declared.tree.Merge.{Merge}
+use Rattle.merge_up.proofs.Vocabulary.{◌≡◌, ◌⊎◌, inl, inr, ℕ, zero, suc, ◌+◌, ◌-◌, ◌<◌, ◌≤◌, List, [], ◌∷◌, ◌++◌, Option, None, Some, unwrap_or, IfSome, Contains, IsSomeAnd, length, slice_get, refl, sym, ap, subst, ◌∙◌, ℤ, neg_ℤ, arith, ints, to_z-of_z, All-contains, Contains-append_cases, Contains-append_left, Contains-append_right, Sink, Merge, IsTopology, Joins, numbers_below, sinks_below, first_made, merge_at, merge_here, second_made, number_below, numbers_below-merge, numbers_below-sink, sinks_below-among, Extremes, HasExtremeSides, IsExtremes, IsGreatest, IsLeastOf, IsRegion, u_above, u_below, v_above, v_below, Rect, kept, region_extremes, sides_from_region, w128, HoldsMerge, WorkState, IsEnd, IsSoFar, far_to, furthest_to, u_back, v_back, End}
 use Rattle.cts_model.specs.tree.Sinks.{AreTreeSinks, IsTreeSink}
-use Rattle.cts_model.specs.tree.Topologies.{IsTopology, Joins, numbers_below, sinks_below}
-use Rattle.cts_model.proofs.TopologyLemmas.{first_made, merge_at, merge_here, second_made, number_below, numbers_below-merge, numbers_below-sink, sinks_below-among}
-use Rattle.tilted_rect.specs.Extremes.{Extremes, HasExtremeSides, IsExtremes, IsGreatest, IsLeastOf, IsRegion, u_above, u_below, v_above, v_below}
-use Rattle.tilted_rect.specs.declared.rect.Rect.{Rect}
-use Rattle.tilted_rect.proofs.CodeNumbers.{kept}
-use Rattle.tilted_rect.proofs.RegionLemmas.{region_extremes, sides_from_region}
-use Rattle.std.specs.Int.{w128}
 use Rattle.std.specs.Prelude.{IsNone, IsSome, FitsSigned}
 use Rattle.merge_up.specs.Distances.{IsFar}
-use Rattle.merge_up.specs.Merging.{HoldsMerge}
-use Rattle.merge_up.specs.Works.{WorkState}
-use Rattle.merge_up.specs.Sides.{IsEnd, IsSoFar, far_to, furthest_to, u_back, v_back}
-use Rattle.merge_up.specs.declared.end.End.{End}
 use Rattle.merge_up.specs.declared.side.Side.{Side}
 use Rattle.merge_up.specs.declared.side.Side.TheVariants as sides
 
@@ -225,8 +210,7 @@ some_unless (Some register) none = refl
 
 -- what may be found, by another fact of it
 pub if_found : {Holds Others : ℕ → Type 0} (found : Option ℕ)
-    → ((register : ℕ) → Holds register → Others register) → IfSome found Holds
-    → IfSome found Others
+    → ((register : ℕ) → Holds register → Others register) → IfSome found Holds → IfSome found Others
 if_found None more is = is
 if_found (Some register) more is = more register is
 

@@ -1,26 +1,7 @@
 -- What a room holds after a node is renewed.
-use Rattle.std.proofs.Common.{◌≡◌, ◌≢◌, inl, inr, ℕ, zero, suc, ◌+◌, ◌-◌, ◌^◌, ◌<◌, ◌≤◌, min, Bool, false, replicate, take, IsFalse, List, [], ◌∷◌, ◌++◌, length, set, Option, Some, unwrap_or, IsSomeAnd, slice_get, slice_set, filter_map, ℤ, ◌+ℤ◌, refl, sym, ap, subst, ◌∙◌, arith, rules}
-use Rattle.std.proofs.lemmas.Bool.{cases_eq}
-use Rattle.std.proofs.lemmas.List.{length-set, get_or-set_same, length-take-le, take-replicate}
-use Rattle.std.proofs.lemmas.List.Elements.{All-replicate}
-use Rattle.std.proofs.Math.Seq.{take-set-lt}
-use Rattle.std.proofs.lemmas.Option.{slice_get-get_or, slice_get_within}
-use Rattle.cts_model.specs.declared.place.Sink.{Sink}
-use Rattle.cts_model.specs.declared.tree.Merge.{Merge}
+use Rattle.merge_up.proofs.Vocabulary.{◌≡◌, ◌≢◌, inl, inr, ℕ, zero, suc, ◌+◌, ◌-◌, ◌^◌, ◌<◌, ◌≤◌, min, Bool, false, replicate, take, IsFalse, List, [], ◌∷◌, ◌++◌, length, set, Option, Some, unwrap_or, IsSomeAnd, slice_get, slice_set, filter_map, ℤ, ◌+ℤ◌, refl, sym, ap, subst, ◌∙◌, arith, rules, cases_eq, length-set, get_or-set_same, length-take-le, take-replicate, All-replicate, take-set-lt, slice_get-get_or, slice_get_within, Sink, Merge, ShowsMerge, IsTopology, Joins, numbers_below, merge_at, merge_here, numbers_below-merge, HasExtremeSides, spread, Rect, region_from_sides, spread_is_reach, HoldsJoined, HoldsMerge, HoldsSink, HoldsSinks, KeepsEnds, IsPointOf, IsRenewed, IsSinkSet, IsUnsettled, renewed_as, AreEnds, extremes_of, HasEntries, state_of, WorkState, IsFit, Ends}
 use Rattle.cts_model.specs.declared.tree.Show.{Show}
-use Rattle.cts_model.specs.tree.ShownReaches.{ShowsMerge}
-use Rattle.cts_model.specs.tree.Topologies.{IsTopology, Joins, numbers_below}
-use Rattle.cts_model.proofs.TopologyLemmas.{merge_at, merge_here, numbers_below-merge}
-use Rattle.tilted_rect.specs.Extremes.{HasExtremeSides, spread}
-use Rattle.tilted_rect.specs.declared.rect.Rect.{Rect}
-use Rattle.tilted_rect.proofs.RegionLemmas.{region_from_sides}
-use Rattle.tilted_rect.proofs.SpanLemmas.{spread_is_reach}
-use Rattle.merge_up.specs.Merging.{HoldsJoined, HoldsMerge, HoldsSink, HoldsSinks, KeepsEnds, IsPointOf, IsRenewed, IsSinkSet, IsUnsettled, renewed_as}
-use Rattle.merge_up.specs.Sides.{AreEnds, extremes_of}
-use Rattle.merge_up.specs.Views.{HasEntries, state_of}
-use Rattle.merge_up.specs.Works.{WorkState, IsFit}
 use Rattle.merge_up.specs.declared.work.Work.TheInside.{Inside}
-use Rattle.merge_up.specs.declared.ends.Ends.{Ends}
 use Rattle.merge_up.proofs.EndLemmas.{ends_are_extremes}
 use Rattle.merge_up.proofs.SearchLemmas.{joined_low}
 
@@ -166,8 +147,7 @@ pub renewed_by : (sinks : List Sink) (merges : List Merge) (place : ℕ) (old ne
     → IsFit old → old.sinks ≡ length sinks → place + 1 < old.sinks
     → new ≡ renewed_as (length sinks) place reach region ends show old
     → AreEnds sinks (numbers_below (length sinks) merges (length sinks + place)) ends
-    → reach +ℤ reach ≡ spread (extremes_of ends)
-    → HasExtremeSides region (extremes_of ends) reach
+    → reach +ℤ reach ≡ spread (extremes_of ends) → HasExtremeSides region (extremes_of ends) reach
     → ShowsMerge sinks (numbers_below (length sinks) merges (length sinks + place)) reach show
     → IsRenewed sinks merges place old new
 renewed_by sinks merges place old new ends reach region show fit was count low is are twice sides

@@ -1,15 +1,7 @@
 -- What a merge's reach, region and show say of its own sinks alone.
-use Rattle.std.proofs.Common.{◌≡◌, ℕ, ◌+◌, List, [], ◌∷◌, length, Option, ap, refl, ◌∙◌, arith, ℤ, zero}
-use Rattle.std.specs.List.{Contains, slice_get, filter_map, cons_option}
-use Rattle.std.proofs.lemmas.List.Elements.{Contains-append_right}
-use Rattle.cts_model.specs.declared.place.Sink.{Sink}
-use Rattle.cts_model.specs.declared.tree.Merge.{Merge}
-use Rattle.cts_model.specs.declared.tree.Show.{Show}
+use Rattle.move_session.proofs.Vocabulary.{◌≡◌, ℕ, ◌+◌, List, [], ◌∷◌, length, Option, ap, refl, ◌∙◌, arith, ℤ, zero, Contains, filter_map, cons_option, Contains-append_right, Sink, Merge, Show, ShowsMerge, numbers_below, HoldsMerge, WorkState}
+use Rattle.std.specs.List.{slice_get}
 use Rattle.cts_model.specs.declared.tree.Show.TheVariants as shows
-use Rattle.cts_model.specs.tree.ShownReaches.{ShowsMerge}
-use Rattle.cts_model.specs.tree.Topologies.{numbers_below}
-use Rattle.merge_up.specs.Merging.{HoldsMerge}
-use Rattle.merge_up.specs.Works.{WorkState}
 
 -- two lists of sinks that agree on these numbers
 abbrev AgreeOn : List ℕ → (old new : List Sink) → Type 0
@@ -43,8 +35,7 @@ same_shown old new numbers reach shows.Root agree shown = absurd shown
 -- reach, region and show of a merge are the same for two lists of sinks that agree on those below
 -- it
 pub holds_agreeing : (old new : List Sink) (merges : List Merge) (work : WorkState) (place : ℕ)
-    → length old ≡ length new
-    → ((register : ℕ)
+    → length old ≡ length new → ((register : ℕ)
     → Contains (numbers_below (length new) merges (length new + place)) register
     → slice_get old register ≡ slice_get new register)
     → HoldsMerge old merges work place → HoldsMerge new merges work place

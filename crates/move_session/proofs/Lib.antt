@@ -1,3 +1,4 @@
+mod Vocabulary
 mod AgreeingSinks
 mod StepsUp
 mod MovedSinks

@@ -1,16 +1,5 @@
 -- What a work holds after one of its sinks moves.
-use Rattle.std.proofs.Common.{◌≡◌, ℕ, ◌+◌, ◌<◌, List, length, slice_set, sym, ap, subst, ◌∙◌, arith}
-use Rattle.std.specs.List.{Contains}
-use Rattle.std.proofs.lemmas.List.{length-set}
-use Rattle.std.proofs.lemmas.List.Elements.{All-set}
-use Rattle.cts_model.specs.declared.place.Sink.{Sink}
-use Rattle.cts_model.specs.declared.tree.Merge.{Merge}
-use Rattle.cts_model.specs.tree.Sinks.{AreTreeSinks, IsTreeSink}
-use Rattle.cts_model.specs.tree.Topologies.{numbers_below}
-use Rattle.merge_up.specs.Merging.{IsMerged, IsSinkSet}
-use Rattle.merge_up.specs.Works.{WorkState, IsFit}
-use Rattle.merge_up.proofs.WorkLemmas.{merges_set, set_held, set_kept, sinks_set}
-use Rattle.move_session.specs.MergesAbove.{IsMergedBeside}
+use Rattle.move_session.proofs.Vocabulary.{◌≡◌, ℕ, ◌+◌, ◌<◌, List, length, slice_set, sym, ap, subst, ◌∙◌, arith, Contains, length-set, All-set, Sink, Merge, AreTreeSinks, IsTreeSink, numbers_below, IsMerged, IsSinkSet, WorkState, IsFit, merges_set, set_held, set_kept, sinks_set, IsMergedBeside}
 use Rattle.move_session.proofs.AgreeingSinks.{holds_agreeing}
 
 -- sinks with one in another's place

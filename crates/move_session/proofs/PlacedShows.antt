@@ -1,14 +1,6 @@
 -- A placed tree realises the offsets with the least wire.
-use Rattle.std.proofs.Common.{List, length, slice_get}
-use Rattle.cts_model.specs.declared.place.Sink.{Sink}
+use Rattle.move_session.proofs.Vocabulary.{List, length, slice_get, Sink, Merge, Show, Tree, IsLeastWire, RealisesOffsets, embedding_of, total_wire, AreShown, IsTopology, some_and}
 use Rattle.cts_model.specs.declared.place.Uv.{Uv}
-use Rattle.cts_model.specs.declared.tree.Merge.{Merge}
-use Rattle.cts_model.specs.declared.tree.Show.{Show}
-use Rattle.cts_model.specs.declared.tree.Tree.{Tree}
-use Rattle.cts_model.specs.tree.Embeddings.{IsLeastWire, RealisesOffsets, embedding_of, total_wire}
-use Rattle.cts_model.specs.tree.ShownReaches.{AreShown}
-use Rattle.cts_model.specs.tree.Topologies.{IsTopology}
-use Rattle.cts_model.proofs.TopologyLemmas.{some_and}
 use Rattle.cts_model.proofs.TreeLemmas.{reaches_realise, shown_reaches_are_least}
 use Rattle.place_down.specs.Trees.{IsPlacedTree, reach_in}
 

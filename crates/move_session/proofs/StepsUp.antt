@@ -1,21 +1,11 @@
 -- The walk over the merges from a sink up to the root.
-use Rattle.std.proofs.Common.{◌≡◌, inl, inr, ℕ, zero, ◌+◌, ◌-◌, ◌^◌, ◌<◌, ◌≤◌, min, true, false, List, [], length, take, get_or, Some, slice_get, refl, sym, ap, subst, ◌∙◌, arith}
+use Rattle.move_session.proofs.Vocabulary.{◌≡◌, inl, inr, ℕ, zero, ◌+◌, ◌-◌, ◌^◌, ◌<◌, ◌≤◌, min, true, false, List, [], length, take, get_or, Some, slice_get, refl, sym, ap, subst, ◌∙◌, arith, Contains, count_by, range_with_len, get_or-take, length-take, take_all, Sink, Merge, IsLive, IsMerge, IsTopology, Joins, numbers_below, merge_at, merge_here, numbers_below-sink, HoldsMerge, HoldsSinks, IsMerged, IsRenewed, IsFit, WorkState, merges_renewed, sinks_renewed, IsMergedBeside, IsStep, JoinsAt, is_above, merges_above}
 use Rattle.std.specs.Cmp.{nat_eq_equiv}
-use Rattle.std.specs.List.{Contains, count_by, range_with_len}
 use Rattle.std.proofs.lemmas.Bool.{cases_eq, cases_lt, eqb-true, false_from_ne_true}
-use Rattle.std.proofs.lemmas.List.{get_or-take, length-take, take_all}
 use Rattle.std.proofs.lemmas.List.FromFn.{get_or-range_with_len, length-range_with_len}
 use Rattle.std.proofs.lemmas.List.Sums.{count_by_more_no, count_by_more_yes}
 use Rattle.std.proofs.lemmas.Map.Views.{Contains-from_any, list_any-from_Contains}
-use Rattle.cts_model.specs.declared.place.Sink.{Sink}
-use Rattle.cts_model.specs.declared.tree.Merge.{Merge}
-use Rattle.cts_model.specs.tree.Topologies.{IsLive, IsMerge, IsTopology, Joins, numbers_below}
-use Rattle.cts_model.proofs.TopologyLemmas.{merge_at, merge_here, numbers_below-sink}
-use Rattle.merge_up.specs.Merging.{HoldsMerge, HoldsSinks, IsMerged, IsRenewed}
-use Rattle.merge_up.specs.Works.{IsFit, WorkState}
 use Rattle.merge_up.proofs.SearchLemmas.{below_either, below_merge, only_one}
-use Rattle.merge_up.proofs.WorkLemmas.{merges_renewed, sinks_renewed}
-use Rattle.move_session.specs.MergesAbove.{IsMergedBeside, IsStep, JoinsAt, is_above, merges_above}
 
 module _ (sinks : List Sink) (merges : List Merge) (register : ℕ) where
   -- the sink is below the node

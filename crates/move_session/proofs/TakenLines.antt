@@ -1,19 +1,11 @@
 -- What is taken in from one more line.
-use Rattle.std.proofs.Common.{◌≡◌, ◌<◌, ◌+◌, ℕ, true, List, [], ◌∷◌, ◌++◌, length, Option, Some, None, Result, Ok, Err, sym, ap, ◌∙◌, arith, cond, nat_lt}
-use Rattle.std.specs.List.{cons_option}
+use Rattle.move_session.proofs.Vocabulary.{◌≡◌, ◌<◌, ◌+◌, ℕ, true, List, [], ◌∷◌, ◌++◌, length, Option, Some, None, Result, Ok, Err, sym, ap, ◌∙◌, arith, cond, nat_lt, cons_option, result_err, result_ok, length_push, filter_map-append, entries_in, has_words, words_in, MovesFault, Move, entry_fault, fault_of, move_of, moves_of, told_at}
 use Rattle.std.specs.Option.{option_or}
-use Rattle.std.specs.Result.{result_err, result_ok}
 use Rattle.std.proofs.lemmas.Bool.Decides.{nat_tests}
-use Rattle.std.proofs.lemmas.List.{length_push}
-use Rattle.std.proofs.lemmas.List.Elements.{filter_map-append}
 use Rattle.cts_model.specs.netlist.Netlists.{number_of}
-use Rattle.cts_model.specs.text.Entries.{entries_in, has_words, words_in}
 use Rattle.cts_model.proofs.EntryLemmas.{entries_round, written}
-use Rattle.move_session.specs.declared.fault.MovesFault.{MovesFault}
 use Rattle.move_session.specs.declared.fault.MovesFault.TheVariants.{TooMany}
-use Rattle.move_session.specs.declared.moves.Move.{Move}
 use Rattle.move_session.specs.declared.moving.Moving.{Moving}
-use Rattle.move_session.specs.Moves.{entry_fault, fault_of, move_of, moves_of, told_at}
 use Rattle.move_session.specs.Taken.{HasTaken}
 
 -- a move is told whatever the line's number

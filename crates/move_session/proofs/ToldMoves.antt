@@ -1,19 +1,12 @@
 -- Moves that a text tells.
-use Rattle.std.proofs.Common.{◌≡◌, ◌<◌, ℕ, List, [], ◌∷◌, length, Option, Some, None, Result, Ok, Err, refl, ap, ◌∙◌, subst, ℤ, All}
-use Rattle.std.specs.List.{cons_option}
-use Rattle.std.specs.Result.{result_ok}
-use Rattle.std.proofs.lemmas.List.Elements.{All-nil, All-cons}
+use Rattle.move_session.proofs.Vocabulary.{◌≡◌, ◌<◌, ℕ, List, [], ◌∷◌, length, Option, Some, None, Result, Ok, Err, refl, ap, ◌∙◌, subst, ℤ, All, cons_option, result_ok, All-nil, All-cons, entries_of, MovesFault, Move, AcceptsMoves, fault_of, move_of, move_to, moves_in, moves_of, register_of}
 use Rattle.cts_base.specs.Decimals.{micros_of}
 use Rattle.cts_base.specs.LineFormats.{first_fault, unless_faulty}
 use Rattle.cts_base.specs.declared.number.NumberFault.{NumberFault}
 use Rattle.cts_model.specs.declared.circuit.Circuit.{Circuit}
 use Rattle.cts_model.specs.netlist.Paths.{register_name}
 use Rattle.cts_model.specs.placement.Coordinates.{point_from}
-use Rattle.cts_model.specs.text.Entries.{entries_of}
 use Rattle.name_set.proofs.NameNumbers.{found_below}
-use Rattle.move_session.specs.declared.fault.MovesFault.{MovesFault}
-use Rattle.move_session.specs.declared.moves.Move.{Move}
-use Rattle.move_session.specs.Moves.{AcceptsMoves, fault_of, move_of, move_to, moves_in, moves_of, register_of}
 
 -- the move is of a register, to a place whose coordinates words name
 pub record IsToldMove (circuit : Circuit) (move : Move) : Type 0 where

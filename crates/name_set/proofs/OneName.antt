@@ -24,8 +24,7 @@ no_lower first (signal ∷ signals) place within =
   where
     at : (register : Bool) (place : ℕ)
         → place < length (cons_option (if register then Some first else None)
-        (numbers (first + 1) signals))
-        → ((p : ℕ) → p < length (numbers (first + 1) signals)
+        (numbers (first + 1) signals)) → ((p : ℕ) → p < length (numbers (first + 1) signals)
         → first + 1 ≤ get_or (numbers (first + 1) signals) p 0)
         → first ≤ get_or (cons_option (if register then Some first else None)
         (numbers (first + 1) signals)) place 0

@@ -1,13 +1,5 @@
 -- The delays of given pairs of registers, pair by pair.
-use Rattle.std.proofs.Common.{ℕ, ◌≡◌, ◌<◌, ◌≤◌, ◌+◌, ◌-◌, List, [], ◌∷◌, ◌++◌, length, drop, take, Option, Some, inl, inr, refl, sym, ◌∙◌, ap, subst, arith}
-use Rattle.std.specs.List.{slice_get, slice_range}
-use Rattle.std.proofs.lemmas.Bool.{cases_lt}
-use Rattle.std.proofs.lemmas.List.{drop-take, take-append-drop, take-take, get_or_append_left, get_or_push, length_push}
-use Rattle.std.proofs.lemmas.Option.{same_Some, slice_get-get_or, slice_get_within}
-use Rattle.cts_model.specs.declared.circuit.Circuit.{Circuit}
-use Rattle.cts_model.specs.declared.tech.Tech.{Tech}
-use Rattle.cts_model.specs.declared.timing.PairDelay.{PairDelay}
-use Rattle.path_delays.specs.JoinedPairs.{IsJoinedBy, AreDelaysBetween}
+use Rattle.path_delays.proofs.Vocabulary.{ℕ, ◌≡◌, ◌<◌, ◌≤◌, ◌+◌, ◌-◌, List, [], ◌∷◌, ◌++◌, length, drop, take, Option, Some, inl, inr, refl, sym, ◌∙◌, ap, subst, arith, slice_get, slice_range, cases_lt, drop-take, take-append-drop, take-take, get_or_append_left, get_or_push, length_push, same_Some, slice_get-get_or, slice_get_within, Circuit, Tech, PairDelay, IsJoinedBy, AreDelaysBetween}
 
 -- the items up to a place, and those from there to a later one
 pub take_on : {X : Type 0} (xs : List X) (first end : ℕ) → first ≤ end

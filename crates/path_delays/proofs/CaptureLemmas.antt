@@ -1,23 +1,6 @@
 -- What registers capture: from the pairs, register by register, to the groups by signal.
-use Rattle.std.proofs.Common.{ℕ, ◌≡◌, ◌<◌, ◌≤◌, ◌+◌, ◌*◌, Bool, true, false, cond, IsTrue, List, [], ◌++◌, length, map, get_or, All, Contains, Option, Some, None, IsSomeAnd, refl, sym, ◌∙◌, subst, arith, inl, inr}
-use Rattle.std.specs.List.{slice_get}
-use Rattle.std.specs.Option.{option_and_then}
-use Rattle.std.proofs.lemmas.Bool.{cases_lt, true≢false}
+use Rattle.path_delays.proofs.Vocabulary.{ℕ, ◌≡◌, ◌<◌, ◌≤◌, ◌+◌, ◌*◌, Bool, true, false, cond, IsTrue, List, [], ◌++◌, length, map, get_or, All, Contains, Option, Some, None, IsSomeAnd, refl, sym, ◌∙◌, subst, arith, inl, inr, slice_get, option_and_then, cases_lt, true≢false, length-append, length-map, All-nil, All-map, All-append, All-contains, All-contains_itself, Contains-append_left, Contains-append_right, slice_get_within, get_or_from_slice_get, Kind, And, Nand, Or, Nor, Not, Xor, Xnor, Buff, Input, Dff, Host, Signal, Circuit, is_host, is_valid, has_host, register_signal, Captures, Groups, group_of, HasGroups, has_number, AreInserted, AreCapturedBy, AreAllCaptures, AreCapturersOf, AreCapturedBelow}
 use Rattle.std.proofs.lemmas.Bool.Decides.{nat_tests}
-use Rattle.std.proofs.lemmas.List.{length-append, length-map}
-use Rattle.std.proofs.lemmas.List.Elements.{All-nil, All-map, All-append, All-contains, All-contains_itself, Contains-append_left, Contains-append_right}
-use Rattle.std.proofs.lemmas.Option.{slice_get_within, get_or_from_slice_get}
-use Rattle.cts_model.specs.declared.kind.Kind.{Kind}
-use Rattle.cts_model.specs.declared.kind.Kind.TheVariants.{And, Nand, Or, Nor, Not, Xor, Xnor, Buff, Input, Dff, Host}
-use Rattle.cts_model.specs.declared.signal.Signal.{Signal}
-use Rattle.cts_model.specs.declared.circuit.Circuit.{Circuit}
-use Rattle.cts_model.specs.netlist.Kinds.{is_host, is_valid}
-use Rattle.cts_model.specs.netlist.Circuits.{has_host}
-use Rattle.cts_model.specs.netlist.Paths.{register_signal, Captures}
-use Rattle.gate_order.specs.declared.groups.Groups.{Groups}
-use Rattle.gate_order.specs.GroupParts.{group_of, HasGroups}
-use Rattle.path_delays.specs.NumberSets.{has_number, AreInserted}
-use Rattle.path_delays.specs.Captured.{AreCapturedBy, AreAllCaptures, AreCapturersOf, AreCapturedBelow}
 use Rattle.path_delays.proofs.ReachedPairs.{captured_within}
 use Rattle.path_delays.proofs.NetworkLemmas.{Contains-map, Contains-values_at, All-values_at, distinct_length-le}
 

@@ -1,20 +1,6 @@
 -- Which registers capture what a walk reached, signal by signal.
-use Rattle.std.proofs.Common.{ℕ, ◌≡◌, ◌<◌, ◌≤◌, ◌+◌, ◌*◌, ◌⊎◌, ◌==◌, not, false, IsTrue, IsSome, List, length, get_or, All, Contains, Option, Some, None, inl, inr, refl, sym, ◌∙◌, ap, subst, arith}
-use Rattle.std.proofs.lemmas.List.Elements.{Contains-get_or}
-use Rattle.std.proofs.lemmas.Bool.{cases_eq, and_parts, and_from, not-true, eqb-false, ne_eqb, true≢false}
-use Rattle.cts_model.specs.declared.circuit.Circuit.{Circuit}
-use Rattle.cts_model.specs.declared.tech.Tech.{Tech}
-use Rattle.gate_order.specs.declared.groups.Groups.{Groups}
-use Rattle.gate_order.specs.GroupParts.{bounds_of, group_of}
-use Rattle.path_delays.specs.declared.capturing.Capturing.{Capturing}
-use Rattle.path_delays.specs.declared.number_set.NumberSet.{NumberSet}
-use Rattle.path_delays.specs.declared.sums.Sums.{Sums}
-use Rattle.path_delays.specs.declared.walk.Walk.{Walk}
-use Rattle.path_delays.specs.NumberSets.{has_number, AreInserted, AreListed, IsLowestTaken}
-use Rattle.path_delays.specs.Reaches.{IsChain, IsReach}
-use Rattle.path_delays.specs.WalkParts.{HasReach, sums_to}
-use Rattle.path_delays.specs.Captured.{AreCapturersOf, AreCapturedBelow}
-use Rattle.path_delays.specs.Capturings.{IsCapturer, HasCaptureRoom, IsSameCapturing, AreAllReached, AreGathered, IsCapturingOf}
+use Rattle.path_delays.proofs.Vocabulary.{ℕ, ◌≡◌, ◌<◌, ◌≤◌, ◌+◌, ◌*◌, ◌⊎◌, ◌==◌, not, false, IsTrue, List, length, get_or, All, Contains, Option, Some, None, inl, inr, refl, sym, ◌∙◌, ap, subst, arith, Contains-get_or, cases_eq, and_parts, and_from, not-true, eqb-false, ne_eqb, true≢false, Circuit, Tech, Groups, bounds_of, group_of, Capturing, NumberSet, Sums, Walk, has_number, AreInserted, AreListed, IsLowestTaken, IsChain, IsReach, HasReach, sums_to, AreCapturersOf, AreCapturedBelow, IsCapturer, HasCaptureRoom, IsSameCapturing, AreAllReached, AreGathered, IsCapturingOf}
+use Rattle.std.proofs.Common.{IsSome}
 use Rattle.path_delays.proofs.ReachedPairs.{chain_of_path}
 use Rattle.path_delays.proofs.CaptureLemmas.{few_signals, few_registers, capture_within}
 
@@ -25,8 +11,7 @@ pub record IsGathering (walk : Walk) (old now : Capturing) (next : ℕ) : Type 0
   pub captured : (signal : ℕ) → IsTrue (has_number now.reached.words.items signal)
       → IsTrue (has_number old.captured.words.items signal)
   pub all : (lane signal register : ℕ) → IsCapturer old signal register
-      → IsSome (sums_to walk lane signal)
-      → IsTrue (has_number now.reached.words.items signal)
+      → IsSome (sums_to walk lane signal) → IsTrue (has_number now.reached.words.items signal)
       ⊎ IsTrue (has_number now.found.words.items register)
   pub each : (register : ℕ) → IsTrue (has_number now.found.words.items register)
       → (signal : ℕ) × IsCapturer old signal register
@@ -66,8 +51,7 @@ module _ (walk : Walk) (old : Capturing) where
   pub gathering_next : (now later : Capturing) (next signal : ℕ) → IsSameCapturing now later
       → IsLowestTaken now.reached.words.items later.reached.words.items signal
       → AreInserted (group_of now.capturers signal) now.found.words.items later.found.words.items
-      → IsGathering walk old now next
-      → IsGathering walk old later (signal + 1)
+      → IsGathering walk old now next → IsGathering walk old later (signal + 1)
   gathering_next now later next signal step taken inserted so_far = record {
     same = same_capturing old now later so_far.same step;
     above = λ other held.

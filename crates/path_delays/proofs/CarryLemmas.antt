@@ -1,17 +1,6 @@
 -- What is carried from starts over gates: how it grows at one signal, and that in the end the least
 -- and the greatest of all that comes stand at each.
-use Rattle.std.proofs.Common.{◌≡◌, ◌≢◌, ◌+ℤ◌, ℕ, ◌⊎◌, List, [], ◌∷◌, ◌++◌, take, get_or, length, ◌<◌, ◌+◌, Contains, Option, Some, None, inl, inr, refl, sym, ◌∙◌, ap, subst, arith}
-use Rattle.std.specs.Option.{option_map}
-use Rattle.std.proofs.lemmas.Bool.{cases_eq}
-use Rattle.std.proofs.lemmas.Int.{ints}
-use Rattle.std.proofs.lemmas.List.{take_more}
-use Rattle.std.proofs.lemmas.List.Elements.{Contains-push, Contains-push_cases, Contains-append_left}
-use Rattle.std.proofs.lemmas.Option.{same_Some}
-use Rattle.cts_model.specs.declared.signal.Signal.{Signal}
-use Rattle.cts_model.specs.netlist.Paths.{Follows, Reads}
-use Rattle.path_delays.specs.declared.sums.Sums.{Sums}
-use Rattle.path_delays.specs.SumParts.{AreAround, IsAround, either_sums, joined_sums, merged_sums, sums_through}
-use Rattle.path_delays.specs.Carrying.{along, AreCarried, AreExtremesIfAny, AreShownBy, Comes, IsJoinedAt, StandsAt}
+use Rattle.path_delays.proofs.Vocabulary.{◌≡◌, ◌≢◌, ◌+ℤ◌, ℕ, ◌⊎◌, List, [], ◌∷◌, ◌++◌, take, get_or, length, ◌<◌, ◌+◌, Contains, Option, Some, None, inl, inr, refl, sym, ◌∙◌, ap, subst, arith, option_map, cases_eq, ints, take_more, Contains-push, Contains-push_cases, Contains-append_left, same_Some, Signal, Follows, Reads, Sums, AreAround, IsAround, either_sums, joined_sums, merged_sums, sums_through, along, AreCarried, AreExtremesIfAny, AreShownBy, Comes, IsJoinedAt, StandsAt}
 use Rattle.path_delays.proofs.SumLemmas.{around_itself, around_joined, around_known, min_cases, max_cases}
 
 -- sums around sums that are around others are around those
@@ -182,8 +171,7 @@ module _ (signals : List Signal) (delay : ℕ → Sums) where
   pub shown_passed : (Starts : ℕ → Sums → Type 0) (read gate : ℕ) (known : Option Sums)
       → Reads signals gate read
       → ((sums : Sums) → known ≡ Some sums → AreShownBy (Comes signals delay Starts read) sums)
-      → (sums : Sums)
-      → option_map (λ (one : Sums). sums_through one (delay gate)) known ≡ Some sums
+      → (sums : Sums) → option_map (λ (one : Sums). sums_through one (delay gate)) known ≡ Some sums
       → AreShownBy (Comes signals delay Starts gate) sums
   shown_passed Starts read gate None reads shown sums none = absurd cc
   shown_passed Starts read gate (Some known) reads shown sums here =
@@ -205,10 +193,8 @@ module _ (signals : List Signal) (delay : ℕ → Sums) where
   pub carried_same : (Starts Begun Later : ℕ → Sums → Type 0) (Handed Now : ℕ → ℕ → Type 0)
       (old new : ℕ → Option Sums)
       → ((signal : ℕ) (start : Sums) → Starts signal start → Later signal start
-      → Begun signal start)
-      → ((read gate : ℕ) (sums : Sums) → old read ≡ Some sums → Now read gate
-      → Reads signals gate read → Handed read gate)
-      → ((signal : ℕ) → new signal ≡ old signal)
+      → Begun signal start) → ((read gate : ℕ) (sums : Sums) → old read ≡ Some sums → Now read gate
+      → Reads signals gate read → Handed read gate) → ((signal : ℕ) → new signal ≡ old signal)
       → AreCarried signals delay Starts Begun Handed old
       → AreCarried signals delay Starts Later Now new
   carried_same Starts Begun Later Handed Now old new back fewer same carried = record {
@@ -249,8 +235,7 @@ module _ (signals : List Signal) (delay : ℕ → Sums) where
     -- more comes to one signal, which hasn't handed on anything yet
     pub carried_joined : ((one : ℕ) (start : Sums) → Starts one start → Later one start
         → Begun one start ⊎ ((one ≡ signal) × AreAround found start))
-        → ((sums : Sums) → found ≡ Some sums
-        → AreShownBy (Comes signals delay Starts signal) sums)
+        → ((sums : Sums) → found ≡ Some sums → AreShownBy (Comes signals delay Starts signal) sums)
         → ((read gate : ℕ) → Now read gate → Reads signals gate read
         → IsHandedBy Handed signal found old read gate)
         → AreCarried signals delay Starts Begun Handed old

@@ -1,21 +1,10 @@
 -- Paths of constraints, one put after the other while there is room.
-use Rattle.std.proofs.Common.{◌≡◌, ◌<◌, ◌≤◌, ◌+◌, ◌-◌, ℕ, List, [], ◌∷◌, ◌++◌, length, get_or, Bool, true, false, Option, Some, None, refl, ap, subst, sym, ◌∙◌, arith, ◌+ℤ◌, ◌-ℤ◌}
-use Rattle.std.specs.Prelude.{nat_le, MatchBool, drop, if◌then◌else◌}
-use Rattle.std.specs.List.{slice_range}
-use Rattle.std.proofs.lemmas.Bool.{leb-true, leb-false}
-use Rattle.std.proofs.lemmas.Int.{ints}
-use Rattle.std.proofs.lemmas.List.{append-nil, append_assoc, drop_all, drop_more, drop-drop, take-append-drop}
+use Rattle.path_delays.proofs.Vocabulary.{◌≡◌, ◌<◌, ◌≤◌, ◌+◌, ◌-◌, ℕ, List, [], ◌∷◌, ◌++◌, length, get_or, Bool, true, false, Option, Some, None, refl, ap, subst, sym, ◌∙◌, arith, ◌+ℤ◌, ◌-ℤ◌, nat_le, if◌then◌else◌, slice_range, leb-true, leb-false, ints, drop_all, drop_more, drop-drop, take-append-drop, Circuit, Constraint, Tech, least_delay, greatest_delay, IsPath, path_within, FitsRoom, IsPathWithin, KeepsPaths, pair_of, path_signals, IsExtremeIfAny}
+use Rattle.std.specs.Prelude.{MatchBool, drop}
+use Rattle.std.proofs.lemmas.List.{append-nil, append_assoc}
 use Rattle.std.proofs.Math.Seq.{append_snoc}
-use Rattle.cts_model.specs.declared.circuit.Circuit.{Circuit}
-use Rattle.cts_model.specs.declared.constraint.Constraint.{Constraint}
-use Rattle.cts_model.specs.declared.tech.Tech.{Tech}
 use Rattle.cts_model.specs.timing.ConstraintPaths.{ArePathsWithin, GivesWeight}
 use Rattle.cts_model.specs.timing.Constraints.{IsConstraintOf, IsHoldConstraint, IsSetupConstraint}
-use Rattle.cts_model.specs.timing.Delays.{least_delay, greatest_delay}
-use Rattle.cts_model.specs.netlist.Paths.{IsPath}
-use Rattle.cts_model.proofs.PathRegisters.{path_within}
-use Rattle.path_delays.specs.CyclePaths.{FitsRoom, IsPathWithin, KeepsPaths, pair_of, path_signals}
-use Rattle.path_delays.specs.ExtremePaths.{IsExtremeIfAny}
 
 -- paths of the constraints from this place on, for which there is room, come after those before
 abbrev pub AreEarlierPaths : Circuit → Tech → (cycle : List Constraint) → (place room : ℕ)
@@ -26,8 +15,7 @@ AreEarlierPaths circuit tech cycle place room paths = (rest : List (List ℕ))
 
 -- a constraint's registers are ones of the circuit
 pub pair_within : (circuit : Circuit) (tech : Tech) (constraint : Constraint)
-    → IsConstraintOf circuit tech constraint
-    → ((pair_of constraint).0 < length circuit.registers)
+    → IsConstraintOf circuit tech constraint → ((pair_of constraint).0 < length circuit.registers)
     × ((pair_of constraint).1 < length circuit.registers)
 pair_within circuit tech constraint is_one = at constraint.setup is_one
   where

@@ -1,16 +1,7 @@
 -- The delays of gates, from the rows of a table.
-use Rattle.std.proofs.Common.{◌≡◌, ◌≤◌, ◌*◌, ℕ, ◌+◌, ◌-◌, ℤ, pos, negsuc, cond, Some, ◌+ℤ◌, ◌*ℤ◌, Bool, true, false, length, sym, subst, arith}
-use Rattle.std.proofs.lemmas.Int.{ints}
+use Rattle.path_delays.proofs.Vocabulary.{◌≡◌, ◌≤◌, ◌*◌, ℕ, ◌+◌, ◌-◌, ℤ, pos, negsuc, cond, Some, ◌+ℤ◌, ◌*ℤ◌, Bool, true, false, length, sym, subst, arith, ints, mul-le-mul_right, is_gate, place_of, Signal, Tech, delay_of, least_gate_delay, greatest_gate_delay, IsWithin, IsGateDelay, AreWithin, gate_sums, weight_of}
 use Rattle.std.proofs.Math.IntN.{pos-*ℤ-pos}
-use Rattle.std.proofs.Math.Nat.{mul-le-mul_right}
-use Rattle.cts_model.specs.netlist.Kinds.{is_gate, place_of}
-use Rattle.cts_model.specs.declared.signal.Signal.{Signal}
-use Rattle.cts_model.specs.declared.tech.Tech.{Tech}
-use Rattle.cts_model.specs.timing.Delays.{delay_of, least_gate_delay, greatest_gate_delay}
-use Rattle.cts_model.specs.table.Tables.{IsWithin, IsGateDelay}
 use Rattle.cts_model.proofs.DelayRows.{row_valid}
-use Rattle.path_delays.specs.SumParts.{AreWithin}
-use Rattle.path_delays.specs.Networks.{gate_sums, weight_of}
 
 -- so much for each further input
 scaled : (number : ℤ) (times : ℕ) → IsWithin 0 1000 number

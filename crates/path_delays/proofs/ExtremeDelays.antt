@@ -1,14 +1,5 @@
 -- The greatest delays of paths, or the least: one proof for both.
-use Rattle.std.proofs.Common.{ℕ, ◌≡◌, Bool, true, false, List, [], ◌∷◌, ◌++◌, Option, refl, ap, arith, ℤ, pos, ◌+ℤ◌}
-use Rattle.std.specs.List.{slice_get}
-use Rattle.std.proofs.lemmas.Int.{ints}
-use Rattle.cts_model.specs.declared.signal.Signal.{Signal}
-use Rattle.cts_model.specs.declared.circuit.Circuit.{Circuit}
-use Rattle.cts_model.specs.declared.tech.Tech.{Tech}
-use Rattle.cts_model.specs.timing.Delays.{least_gate_delay, greatest_gate_delay, least_through, greatest_through}
-use Rattle.path_delays.specs.declared.sums.Sums.{Sums}
-use Rattle.path_delays.specs.Reaches.{IsChain, AreExtreme}
-use Rattle.path_delays.specs.ExtremePaths.{delay_by, extreme_of, IsNoFurther}
+use Rattle.path_delays.proofs.Vocabulary.{ℕ, ◌≡◌, Bool, true, false, List, [], ◌∷◌, ◌++◌, Option, refl, ap, arith, ℤ, pos, ◌+ℤ◌, slice_get, ints, Signal, Circuit, Tech, least_gate_delay, greatest_gate_delay, least_through, greatest_through, Sums, IsChain, AreExtreme, delay_by, extreme_of, IsNoFurther}
 
 -- a register's own delay
 abbrev pub own_by : Bool → Tech → ℤ

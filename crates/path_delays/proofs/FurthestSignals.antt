@@ -1,14 +1,5 @@
 -- The first of some signals at which a walk found the greatest sum of all, or the least.
-use Rattle.std.proofs.Common.{ℕ, ◌≡◌, ◌<◌, ◌+◌, Bool, true, false, List, length, get_or, Contains, IsSomeAnd, sym, ◌∙◌, subst, arith, inl, inr, ℤ}
-use Rattle.std.proofs.lemmas.Bool.{cases_lt}
-use Rattle.std.proofs.lemmas.List.{get_or_default}
-use Rattle.cts_model.proofs.TopologyLemmas.{some_and}
-use Rattle.path_delays.specs.declared.sums.Sums.{Sums}
-use Rattle.path_delays.specs.declared.walk.Walk.{Walk}
-use Rattle.path_delays.specs.SumParts.{IsAround}
-use Rattle.path_delays.specs.WalkParts.{sums_to}
-use Rattle.path_delays.specs.Carrying.{AreExtremesOf, StandsAt}
-use Rattle.path_delays.specs.ExtremePaths.{extreme_of, IsNoFurther, IsFurthest}
+use Rattle.path_delays.proofs.Vocabulary.{ℕ, ◌≡◌, ◌<◌, ◌+◌, Bool, true, false, List, length, get_or, Contains, IsSomeAnd, sym, ◌∙◌, subst, arith, inl, inr, ℤ, cases_lt, get_or_default, some_and, Sums, Walk, IsAround, sums_to, AreExtremesOf, StandsAt, extreme_of, IsNoFurther, IsFurthest}
 
 -- the walk found this extreme at the signal
 abbrev pub FitsAt : Walk → (lane : ℕ) → Bool → ℤ → ℕ → Type 0
@@ -62,8 +53,7 @@ module _ (walk : Walk) (lane : ℕ) (signals : List ℕ) (greatest : Bool) (sums
 
 -- one signal more at which it didn't
 pub none_fits_next : (walk : Walk) (lane : ℕ) (signals : List ℕ) (greatest : Bool) (extreme : ℤ)
-    (count : ℕ)
-    → (FitsAt walk lane greatest extreme (get_or signals count 0) → ⊥)
+    (count : ℕ) → (FitsAt walk lane greatest extreme (get_or signals count 0) → ⊥)
     → NoneFitsBefore walk lane signals greatest extreme count
     → NoneFitsBefore walk lane signals greatest extreme (count + 1)
 none_fits_next walk lane signals greatest extreme count unfit none place before fits =

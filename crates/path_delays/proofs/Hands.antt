@@ -1,22 +1,8 @@
 -- Sums handed to one gate after the other.
-use Rattle.std.proofs.Common.{◌≡◌, ◌≢◌, ◌<◌, ◌||◌, ℕ, Bool, true, false, cond, length, Some, None, List, All, [], ◌∷◌, ◌++◌, Option, refl, sym, ◌∙◌, ap, subst, arith}
-use Rattle.std.specs.Prelude.{◌==◌, IsSome, if◌then◌else◌}
-use Rattle.std.specs.List.{slice_get}
-use Rattle.std.specs.Option.{option_map, unwrap_or}
-use Rattle.std.proofs.lemmas.Bool.{eq-eqb, ne_eqb}
-use Rattle.std.proofs.lemmas.Option.{get_or_from_slice_get, same_Some, slice_get-get_or}
-use Rattle.path_delays.specs.declared.lanes.Lanes.{Lanes}
-use Rattle.path_delays.specs.declared.network.Network.{Network}
-use Rattle.path_delays.specs.declared.reach.Reach.{Reach}
+use Rattle.path_delays.proofs.Vocabulary.{◌≡◌, ◌≢◌, ◌<◌, ◌||◌, ℕ, Bool, true, false, cond, length, Some, None, List, All, [], ◌∷◌, ◌++◌, Option, refl, sym, ◌∙◌, ap, subst, arith, IsSome, if◌then◌else◌, slice_get, option_map, unwrap_or, eq-eqb, ne_eqb, get_or_from_slice_get, same_Some, slice_get-get_or, Lanes, Network, Reach, NumberSet, Sums, AreWithin, joined_sums, merged_sums, no_sums, sums_through, has_number, IsInserted, AllBounded, lane_of, GetsSums, row_at, rows_of, table_limit, delay_at, lane_at, lanes_at, rank_at, HasReachRoom, IsSameRoom, IsHanded, IsMarked, IsOpened, AreHanded}
+use Rattle.std.specs.Prelude.{◌==◌}
 use Rattle.path_delays.specs.declared.lane_table.LaneTable.{LaneTable}
-use Rattle.path_delays.specs.declared.number_set.NumberSet.{NumberSet}
-use Rattle.path_delays.specs.declared.sums.Sums.{Sums}
-use Rattle.path_delays.specs.SumParts.{AreWithin, joined_sums, merged_sums, no_sums, sums_through}
-use Rattle.path_delays.specs.NumberSets.{has_number, IsInserted}
-use Rattle.path_delays.specs.LaneParts.{AllBounded, lane_of}
-use Rattle.path_delays.specs.LaneTables.{GetsSums, row_at, rows_of, table_limit}
 use Rattle.path_delays.proofs.LaneLemmas.{some_is}
-use Rattle.path_delays.specs.Handing.{delay_at, lane_at, lanes_at, rank_at, HasReachRoom, IsSameRoom, IsHanded, IsMarked, IsOpened, AreHanded}
 
 -- there is room where there is as much as before
 pub HasReachRoom-same : (network : Network) (old new : Reach) → IsSameRoom old new
@@ -111,8 +97,7 @@ module _ (network : Network) (old : Reach) (from gate : ℕ) (given : Lanes) (de
       → gate < length (rows_of old.lanes) → table_limit lanes ≡ table_limit old.lanes
       → GetsSums gate (λ lane.
       merged_sums (lane_of (row_at (rows_of old.lanes) gate) lane) (through lane))
-      (rows_of old.lanes) (rows_of lanes)
-      → IsHanded network given gate old
+      (rows_of old.lanes) (rows_of lanes) → IsHanded network given gate old
       (record { reached = old.reached; lanes = lanes; waiting = old.waiting })
   IsHanded-merged lanes reached inside limit gets =
       let new : Reach = record { reached = old.reached; lanes = lanes; waiting = old.waiting } in
@@ -136,8 +121,7 @@ module _ (network : Network) (old : Reach) (from gate : ℕ) (given : Lanes) (de
       → IsInserted gate old.reached.words.items reached.words.items
       → IsInserted (rank_at network gate) old.waiting.words.items waiting.words.items
       → table_limit lanes ≡ table_limit old.lanes
-      → GetsSums gate through (rows_of old.lanes) (rows_of lanes)
-      → IsHanded network given gate old
+      → GetsSums gate through (rows_of old.lanes) (rows_of lanes) → IsHanded network given gate old
       (record { reached = reached; lanes = lanes; waiting = waiting })
   IsHanded-passed reached waiting lanes first inserted waits limit gets =
       let new : Reach = record { reached = reached; lanes = lanes; waiting = waiting } in
@@ -194,8 +178,7 @@ IsOpened-first old signal reached lanes first inserted limit gets =
 -- sums that are joined in a lane of an opened signal are marked
 pub IsMarked-joined : (old between : Reach) (lane signal : ℕ) (sums : Sums) (lanes : LaneTable)
     → lane < 16 → signal < length (rows_of between.lanes) → IsOpened signal old between
-    → table_limit lanes ≡ table_limit between.lanes
-    → GetsSums signal (λ other. if other == lane
+    → table_limit lanes ≡ table_limit between.lanes → GetsSums signal (λ other. if other == lane
     then merged_sums (lane_of (row_at (rows_of between.lanes) signal) other) sums
     else lane_of (row_at (rows_of between.lanes) signal) other) (rows_of between.lanes)
     (rows_of lanes) → IsMarked lane signal sums old

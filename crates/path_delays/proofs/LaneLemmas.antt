@@ -1,15 +1,5 @@
 -- Sums in lanes: that they keep within their limits, and what is shown of them.
-use Rattle.std.proofs.Common.{cond, ◌≡◌, ◌+◌, ◌≤◌, ℕ, pos, ◌≤ℤ◌, Bool, true, false, List, length, get_or, Option, Some, None, inl, inr, refl, sym, ◌∙◌, ap, subst, arith}
-use Rattle.std.specs.Prelude.{IsSome, int_lt}
-use Rattle.std.specs.Option.{option_and_then, option_map}
-use Rattle.std.proofs.lemmas.Bool.{cases_lt}
-use Rattle.std.proofs.lemmas.List.{get_or_past, get_or_default}
-use Rattle.std.proofs.lemmas.Int.{clamps, ints}
-use Rattle.std.proofs.lemmas.Option.{same_Some}
-use Rattle.path_delays.specs.declared.lanes.Lanes.{Lanes}
-use Rattle.path_delays.specs.declared.sums.Sums.{Sums}
-use Rattle.path_delays.specs.LaneParts.{lane_of}
-use Rattle.path_delays.specs.SumParts.{AreBounded, AreMissing, AreWithin, delay_limit, either_sums, joined_sums, merged_sums, no_sums, some_sums, sums_through}
+use Rattle.path_delays.proofs.Vocabulary.{cond, ◌≡◌, ◌+◌, ◌≤◌, ℕ, pos, ◌≤ℤ◌, Bool, true, false, List, length, get_or, Option, Some, None, inl, inr, refl, sym, ◌∙◌, ap, subst, arith, IsSome, int_lt, option_and_then, option_map, cases_lt, get_or_past, get_or_default, clamps, ints, same_Some, Lanes, Sums, lane_of, AreBounded, AreMissing, AreWithin, delay_limit, either_sums, joined_sums, merged_sums, no_sums, some_sums, sums_through}
 use Rattle.path_delays.proofs.Rooms.{within_higher}
 use Rattle.path_delays.proofs.SumLemmas.{within_joined, within_through}
 
@@ -127,8 +117,7 @@ bounded_joined limit (Some old) sums before bounded = elim (before old refl) [
 
 -- sums that are there stay as they are when they are merged with missing ones
 merged_same : (limit : ℕ) (some none : Sums) → limit ≤ delay_limit → AreWithin limit some
-    → AreMissing limit none
-    → (merged_sums some none ≡ some) × (merged_sums none some ≡ some)
+    → AreMissing limit none → (merged_sums some none ≡ some) × (merged_sums none some ≡ some)
 merged_same limit some none few within missing = (
   same_sums (merged_sums some none) some
       (omega (arith, ints, clamps, within.least.below, missing.least_above))
@@ -168,8 +157,7 @@ pub some_is_there : (sums entry : Sums) → some_sums sums ≡ Some entry
 some_is_there sums entry some = at (int_lt sums.greatest (pos 0)) refl some
   where
     at : (below : Bool) → int_lt sums.greatest (pos 0) ≡ below
-        → cond below None (Some sums) ≡ Some entry
-        → (sums ≡ entry) × (pos 0 ≤ℤ sums.greatest)
+        → cond below None (Some sums) ≡ Some entry → (sums ≡ entry) × (pos 0 ≤ℤ sums.greatest)
     at true below none = absurd cc
     at false not_below same = (same_Some sums entry same, omega (arith, ints, not_below))
 

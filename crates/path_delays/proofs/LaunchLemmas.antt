@@ -1,20 +1,6 @@
 -- What a register launches: a signal that is no gate.
-use Rattle.std.proofs.Common.{◌≡◌, ◌↔◌, ◌<◌, ◌+◌, ℕ, Bool, true, false, cond, IsTrue, List, [], ◌∷◌, ◌++◌, length, take, drop, get_or, Contains, MatchBool, IsSomeAnd, Option, Some, None, inl, inr, refl, sym, ◌∙◌, ap, subst, arith, append-nil}
-use Rattle.std.specs.List.{slice_get}
-use Rattle.std.proofs.lemmas.Bool.{cases_lt, true≢false}
-use Rattle.std.proofs.lemmas.List.{get_or-drop, get_or-take, length-drop, length-take}
-use Rattle.std.proofs.lemmas.List.Elements.{Contains-append_left, Contains-push, Contains-push_cases}
-use Rattle.std.proofs.lemmas.Option.{slice_get_within, slice_get-get_or, get_or_from_slice_get}
-use Rattle.cts_model.specs.declared.kind.Kind.{Kind}
-use Rattle.cts_model.specs.declared.kind.Kind.TheVariants.{Input, Dff, Host}
-use Rattle.cts_model.specs.declared.signal.Signal.{Signal}
-use Rattle.cts_model.specs.declared.circuit.Circuit.{Circuit}
-use Rattle.cts_model.specs.netlist.Kinds.{is_gate, is_host, is_input, is_register}
-use Rattle.cts_model.specs.netlist.Paths.{IsInput, Launches, register_signal}
+use Rattle.path_delays.proofs.Vocabulary.{◌≡◌, ◌↔◌, ◌<◌, ◌+◌, ℕ, Bool, true, false, cond, IsTrue, List, [], ◌∷◌, ◌++◌, length, take, drop, get_or, Contains, MatchBool, IsSomeAnd, Option, Some, None, inl, inr, refl, sym, ◌∙◌, ap, subst, arith, append-nil, slice_get, cases_lt, true≢false, get_or-drop, get_or-take, length-drop, length-take, Contains-append_left, Contains-push, Contains-push_cases, slice_get_within, slice_get-get_or, get_or_from_slice_get, Kind, Input, Dff, Host, Signal, Circuit, is_gate, is_host, is_input, is_register, IsInput, Launches, register_signal, some_and, AreLaunchedBy, AreInputs, AreInputsBelow, AreRanks}
 use Rattle.cts_model.proofs.CircuitLemmas.{IsRegisterAt, registered}
-use Rattle.cts_model.proofs.TopologyLemmas.{some_and}
-use Rattle.path_delays.specs.Carrying.{AreLaunchedBy}
-use Rattle.path_delays.specs.Networks.{AreInputs, AreInputsBelow, AreRanks}
 
 -- a primary input is no gate
 input_is_no_gate : (kind : Kind) → is_input kind ≡ true → is_gate kind ≡ false

@@ -1,3 +1,4 @@
+mod Vocabulary
 mod NumberSetLemmas
 mod DelayLemmas
 mod NetworkLemmas

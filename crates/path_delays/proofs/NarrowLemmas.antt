@@ -1,21 +1,8 @@
 -- Sums of 32 bits stand for sums of 64: what is merged and what passes a gate, and lists of lanes.
-use Rattle.std.proofs.Common.{cond, ◌≡◌, ◌≢◌, ◌<◌, ℕ, ℤ, pos, ◌≤ℤ◌, Bool, true, false, List, map, length, get_or, set, Some, inl, inr, refl, sym, ◌∙◌, ap, subst, arith}
-use Rattle.std.specs.Prelude.{◌==◌, int_lt, if◌then◌else◌, negsuc, ◌+ℤ◌, ◌-ℤ◌, ◌⊎◌}
-use Rattle.std.specs.Int.{int_min, int_max}
-use Rattle.std.specs.List.{slice_get}
-use Rattle.std.specs.Option.{option_map}
-use Rattle.std.proofs.lemmas.Bool.{cases_lt, eqb-true, eqb-false}
-use Rattle.std.proofs.lemmas.List.{get_or-map, get_or-set_same, get_or-set_other, get_or_default, length-map, length-set, map-set}
+use Rattle.path_delays.proofs.Vocabulary.{cond, ◌≡◌, ◌≢◌, ◌<◌, ℕ, ℤ, pos, ◌≤ℤ◌, Bool, true, false, List, map, length, get_or, set, Some, inl, inr, refl, sym, ◌∙◌, ap, subst, arith, int_lt, if◌then◌else◌, int_min, int_max, slice_get, option_map, cases_lt, eqb-true, eqb-false, get_or-map, get_or-set_same, get_or-set_other, get_or_default, length-map, length-set, map-set, ints, clamps, slice_get-get_or, slice_get-map, slice_get_past, Sums, Lanes, NarrowLanes, AreBounded, AreWithin, merged_sums, sums_through, AllBounded, lane_of, ArePassable, greatest_in, least_in, narrow_limit, wide_greatest, wide_lanes, wide_least, GetsSums, lane_in, row_at}
+use Rattle.std.specs.Prelude.{◌==◌, negsuc, ◌+ℤ◌, ◌-ℤ◌, ◌⊎◌}
 use Rattle.std.proofs.lemmas.List.FromFn.{get_or-map-range_with_len}
-use Rattle.std.proofs.lemmas.Int.{ints, clamps}
-use Rattle.std.proofs.lemmas.Option.{slice_get-get_or, slice_get-map, slice_get_past}
-use Rattle.path_delays.specs.declared.sums.Sums.{Sums}
-use Rattle.path_delays.specs.declared.lanes.Lanes.{Lanes}
-use Rattle.path_delays.specs.declared.narrow_lanes.NarrowLanes.{NarrowLanes}
-use Rattle.path_delays.specs.SumParts.{AreBounded, AreWithin, merged_sums, sums_through}
-use Rattle.path_delays.specs.LaneParts.{AllBounded, lane_of}
-use Rattle.path_delays.specs.NarrowParts.{ArePassable, greatest_in, least_in, narrow_limit, sums_in, wide_greatest, wide_lanes, wide_least}
-use Rattle.path_delays.specs.LaneTables.{GetsSums, lane_in, row_at}
+use Rattle.path_delays.specs.NarrowParts.{sums_in}
 
 -- sums are one where both are
 same_sums : (first second : Sums) → first.least ≡ second.least → first.greatest ≡ second.greatest

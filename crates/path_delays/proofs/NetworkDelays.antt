@@ -1,22 +1,5 @@
 -- The delays that a network keeps, and the limits of what they add up to.
-use Rattle.std.proofs.Common.{◌≡◌, ◌+◌, ◌-◌, ◌<◌, ◌≤◌, ℕ, true, pos, IsTrue, List, take, get_or, Some, refl, sym, ◌∙◌, ap, subst, arith}
-use Rattle.std.specs.List.{slice_get, sum_by}
-use Rattle.std.proofs.lemmas.List.{get_or-map, take-take}
-use Rattle.std.proofs.lemmas.List.Sums.{sum_by_more, sum_by-take-le}
-use Rattle.std.proofs.lemmas.Option.{slice_get_within, get_or_from_slice_get}
-use Rattle.cts_model.specs.declared.signal.Signal.{Signal}
-use Rattle.cts_model.specs.declared.circuit.Circuit.{Circuit}
-use Rattle.cts_model.specs.declared.tech.Tech.{Tech}
-use Rattle.cts_model.specs.netlist.Kinds.{is_gate}
-use Rattle.cts_model.specs.netlist.Paths.{IsGate, Reads}
-use Rattle.cts_model.proofs.TopologyLemmas.{some_and}
-use Rattle.gate_order.proofs.ReadLemmas.{IsGate-from_Reads}
-use Rattle.path_delays.specs.declared.sums.Sums.{Sums}
-use Rattle.path_delays.specs.declared.network.Network.{Network}
-use Rattle.path_delays.specs.SumParts.{AreWithin, delay_limit}
-use Rattle.path_delays.specs.Networks.{IsNetworkOf, gate_sums, weight_of}
-use Rattle.path_delays.specs.Handing.{delay_at, limit_at, most_at, rank_at}
-use Rattle.path_delays.specs.Carrying.{gate_sums_at}
+use Rattle.path_delays.proofs.Vocabulary.{◌≡◌, ◌+◌, ◌-◌, ◌<◌, ◌≤◌, ℕ, true, pos, IsTrue, List, take, get_or, Some, refl, sym, ◌∙◌, ap, subst, arith, slice_get, sum_by, get_or-map, take-take, sum_by_more, sum_by-take-le, slice_get_within, get_or_from_slice_get, Signal, Circuit, Tech, is_gate, IsGate, Reads, some_and, IsGate-from_Reads, Sums, Network, AreWithin, delay_limit, IsNetworkOf, gate_sums, weight_of, delay_at, limit_at, most_at, rank_at, gate_sums_at}
 use Rattle.path_delays.proofs.DelayLemmas.{gate_within}
 use Rattle.path_delays.proofs.Rooms.{limit_below, limit_rises, total_within}
 use Rattle.path_delays.proofs.SumLemmas.{within_most}

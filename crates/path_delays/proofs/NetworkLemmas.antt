@@ -1,24 +1,7 @@
 -- The readers of each signal, and the place of each gate in the order.
-use Rattle.std.proofs.Common.{◌≡◌, ◌≢◌, ◌+◌, ◌-◌, ◌*◌, ◌<◌, ◌≤◌, ◌==◌, ℕ, zero, suc, Bool, true, false, cond, IsTrue, List, [], ◌∷◌, ◌++◌, length, map, filter, replicate, get_or, set, sum, All, AllPairs, Contains, Option, Some, None, IsSomeAnd, inl, inr, refl, sym, ◌∙◌, ap, subst, arith}
-use Rattle.std.specs.List.{slice_get, sum_by}
-use Rattle.std.specs.Option.{option_map_or}
-use Rattle.std.proofs.lemmas.Bool.{cases_eq, cases_lt, eqb-true, eq-eqb}
-use Rattle.std.proofs.lemmas.List.{length-append, length-map, length-set, length-take, get_or-map, get_or-take, get_or-set_same, get_or-set_other, get_or_default, length-replicate, get_or-replicate, get_or_past}
+use Rattle.path_delays.proofs.Vocabulary.{◌≡◌, ◌≢◌, ◌+◌, ◌-◌, ◌*◌, ◌<◌, ◌≤◌, ◌==◌, ℕ, zero, suc, Bool, true, false, cond, IsTrue, List, [], ◌∷◌, ◌++◌, length, map, filter, replicate, get_or, set, sum, All, AllPairs, Contains, Option, Some, None, IsSomeAnd, inl, inr, refl, sym, ◌∙◌, ap, subst, arith, slice_get, sum_by, option_map_or, cases_eq, cases_lt, eqb-true, eq-eqb, length-append, length-map, length-set, length-take, get_or-map, get_or-take, get_or-set_same, get_or-set_other, get_or_default, length-replicate, get_or-replicate, get_or_past, sum_by_more, sum_by-cons, sum_by-set, sum_by-le-sum_by, sum-map, All-nil, All-map, All-filter, All-append, All-contains, All-contains_itself, filter_passes, Contains-append_left, Contains-append_right, get_or_from_slice_get, slice_get_within, slice_get-get_or, Signal, Circuit, is_gate, gate_inputs, has_host, IsGate, Reads, Groups, group_of, HasGroups, IsTopologicalOrder, Contains-cons, IsGate-from_Reads, gate_within, AreAllReads, all_reads_by, AreReaders, HasPlaceInOrder, ArePlaces, AreRanks, weight_of, weight_at}
 use Rattle.std.proofs.lemmas.List.Folds.{sum_by-replicate}
-use Rattle.std.proofs.lemmas.List.Sums.{sum_by_more, sum_by-cons, sum_by-set, sum_by-le-sum_by, sum-map}
-use Rattle.std.proofs.lemmas.List.Elements.{All-nil, All-map, All-filter, All-append, All-contains, All-contains_itself, filter_passes, Contains-append_left, Contains-append_right}
-use Rattle.std.proofs.lemmas.Option.{get_or_from_slice_get, slice_get_within, slice_get-get_or}
-use Rattle.cts_model.specs.declared.signal.Signal.{Signal}
-use Rattle.cts_model.specs.declared.circuit.Circuit.{Circuit}
-use Rattle.cts_model.specs.netlist.Kinds.{is_gate}
-use Rattle.cts_model.specs.netlist.Circuits.{gate_inputs, has_host}
-use Rattle.cts_model.specs.netlist.Paths.{IsGate, Reads}
-use Rattle.gate_order.specs.declared.groups.Groups.{Groups}
 use Rattle.gate_order.specs.Grouped.{values_at}
-use Rattle.gate_order.specs.GroupParts.{group_of, HasGroups}
-use Rattle.gate_order.specs.Orders.{IsTopologicalOrder}
-use Rattle.gate_order.proofs.ReadLemmas.{Contains-cons, IsGate-from_Reads, gate_within}
-use Rattle.path_delays.specs.Networks.{AreAllReads, all_reads_by, AreReaders, HasPlaceInOrder, ArePlaces, AreRanks, weight_of, weight_at}
 
 -- no pairs of no signals
 pub AreAllReads-none : (signals : List Signal) → AreAllReads signals 0 []
@@ -166,8 +149,7 @@ ArePlaces-none limit order = record {
 -- one more item's place
 pub ArePlaces-more : (limit : ℕ) (order : List ℕ) (passed : ℕ) (places : List ℕ) (number : ℕ)
     → AllPairs (λ first second. first ≢ second) order → passed < length order
-    → number ≡ get_or order passed 0 → number < limit
-    → ArePlaces limit order passed places
+    → number ≡ get_or order passed 0 → number < limit → ArePlaces limit order passed places
     → ArePlaces limit order (passed + 1) (set places number (passed + 1))
 ArePlaces-more limit order passed places number once inside read known so_far = record {
   covers = length-set places number (passed + 1) ∙ so_far.covers;

@@ -1,16 +1,8 @@
 -- Whether more pairs are joined than a list may have.
-use Rattle.std.proofs.Common.{ℕ, zero, suc, ◌≡◌, ◌<◌, ◌≤◌, ◌+◌, List, ◌∷◌, [], ◌++◌, length, get_or, map, Option, Some, None, refl, arith, pos}
-use Rattle.std.proofs.lemmas.Bool.{false≢true}
-use Rattle.std.proofs.lemmas.List.{length_push, length-map, get_or-map}
-use Rattle.cts_model.specs.declared.circuit.Circuit.{Circuit}
-use Rattle.cts_model.specs.declared.tech.Tech.{Tech}
-use Rattle.cts_model.specs.declared.timing.PairDelay.{PairDelay}
-use Rattle.cts_model.specs.timing.EqualArrivals.{ComesBefore}
-use Rattle.cts_model.specs.timing.PairLists.{ListsPairs, JoinsMoreThan}
+use Rattle.path_delays.proofs.Vocabulary.{ℕ, zero, suc, ◌≡◌, ◌<◌, ◌≤◌, ◌+◌, List, ◌∷◌, [], ◌++◌, length, get_or, map, Option, Some, None, refl, arith, pos, false≢true, length_push, length-map, get_or-map, Circuit, Tech, PairDelay, ComesBefore, ListsPairs, JoinsMoreThan, IsJoinedBy, ListsPairsBefore, MeetsLimit, ShowsTooMany, pair_limit}
 use Rattle.cts_model.proofs.PairOrder.{earlier_place}
 use Rattle.path_delays.specs.declared.fault.PairFault.{PairFault}
 use Rattle.path_delays.specs.declared.fault.PairFault.TheVariants.{TooManyPairs, NoMemory}
-use Rattle.path_delays.specs.JoinedPairs.{IsJoinedBy, ListsPairsBefore, MeetsLimit, ShowsTooMany, pair_limit}
 use Rattle.path_delays.proofs.PairWalk.{pair_next}
 
 -- where a list has the pair of two registers

@@ -1,19 +1,6 @@
 -- The list of joined pairs as it grows, by the register that launches and then by the one that
 -- captures.
-use Rattle.std.proofs.Common.{ℕ, ◌≡◌, ◌<◌, ◌≤◌, ◌+◌, ◌⊎◌, List, [], ◌∷◌, ◌++◌, length, get_or, Any, Option, Some, None, sym, ◌∙◌, subst, arith, inl, inr, append-nil}
-use Rattle.std.specs.Option.{option_to_list}
-use Rattle.std.proofs.lemmas.Bool.{cases_lt}
-use Rattle.std.proofs.lemmas.List.{get_or_append_left, length_push}
-use Rattle.std.proofs.lemmas.List.Elements.{All-push}
-use Rattle.std.proofs.lemmas.List.Quantifiers.{all_pairs_push, Any-push}
-use Rattle.cts_model.specs.declared.circuit.Circuit.{Circuit}
-use Rattle.cts_model.specs.declared.tech.Tech.{Tech}
-use Rattle.cts_model.specs.declared.timing.PairDelay.{PairDelay}
-use Rattle.cts_model.specs.netlist.Paths.{IsPath}
-use Rattle.cts_model.specs.timing.EqualArrivals.{IsPairDelay, ComesBefore}
-use Rattle.cts_model.specs.timing.PairLists.{IsSmallPair}
-use Rattle.cts_model.proofs.PathRegisters.{path_within}
-use Rattle.path_delays.specs.JoinedPairs.{IsDelayBetween, IsJoinedBy, ListsPairsBefore, pair_limit, ArePairs}
+use Rattle.path_delays.proofs.Vocabulary.{ℕ, ◌≡◌, ◌<◌, ◌≤◌, ◌+◌, ◌⊎◌, List, [], ◌∷◌, ◌++◌, length, get_or, Any, Option, Some, None, sym, ◌∙◌, subst, arith, inl, inr, append-nil, option_to_list, cases_lt, get_or_append_left, length_push, All-push, all_pairs_push, Any-push, Circuit, Tech, PairDelay, IsPath, IsPairDelay, ComesBefore, IsSmallPair, path_within, IsDelayBetween, IsJoinedBy, ListsPairsBefore, pair_limit, ArePairs}
 
 -- what is listed stays so with one item more
 any_before : (Property : PairDelay → Type 0) (pairs : List PairDelay) (pair : PairDelay)

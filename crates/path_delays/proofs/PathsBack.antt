@@ -1,21 +1,6 @@
 -- The walk back from the end of a path, each time to the signal that was found furthest.
-use Rattle.std.proofs.Common.{ℕ, ◌≡◌, ◌<◌, ◌≤◌, ◌⊎◌, Bool, List, [], ◌∷◌, ◌++◌, length, reverse, Option, Some, None, Contains, refl, sym, ◌∙◌, ap, subst, arith, inl, inr, ◌+ℤ◌}
-use Rattle.std.specs.List.{slice_get}
-use Rattle.std.proofs.lemmas.Bool.{true≢false}
-use Rattle.std.proofs.lemmas.Int.{ints}
-use Rattle.std.proofs.lemmas.List.{reverse-append}
-use Rattle.std.proofs.lemmas.Option.{same_Some}
-use Rattle.cts_model.specs.declared.signal.Signal.{Signal}
-use Rattle.cts_model.specs.declared.circuit.Circuit.{Circuit}
-use Rattle.cts_model.specs.declared.tech.Tech.{Tech}
-use Rattle.cts_model.specs.netlist.Paths.{register_signal, Reads, Follows, Launches, Captures}
+use Rattle.path_delays.proofs.Vocabulary.{ℕ, ◌≡◌, ◌<◌, ◌≤◌, ◌⊎◌, Bool, List, [], ◌∷◌, ◌++◌, length, reverse, Option, Some, None, Contains, refl, sym, ◌∙◌, ap, subst, arith, inl, inr, ◌+ℤ◌, slice_get, true≢false, ints, reverse-append, same_Some, Signal, Circuit, Tech, register_signal, Reads, Follows, Launches, Captures, Sums, Walk, IsChain, IsReach, rank_at, HasRanksOf, HasReachBetween, sums_to, delay_by, extreme_of, IsNoFurther, IsExtremePath, IsFurthest}
 use Rattle.gate_order.proofs.Rings.{follows_joined}
-use Rattle.path_delays.specs.declared.sums.Sums.{Sums}
-use Rattle.path_delays.specs.declared.walk.Walk.{Walk}
-use Rattle.path_delays.specs.Reaches.{IsChain, IsReach}
-use Rattle.path_delays.specs.Handing.{rank_at}
-use Rattle.path_delays.specs.WalkParts.{HasRanksOf, HasReachBetween, sums_to}
-use Rattle.path_delays.specs.ExtremePaths.{delay_by, extreme_of, IsNoFurther, IsExtremePath, IsFurthest}
 use Rattle.path_delays.proofs.ExtremeDelays.{own_by, gate_by, through_by, delay_is, delay_push, IsReachBy, reach_by, same_extreme, no_further_than, no_further_after}
 use Rattle.path_delays.proofs.LaunchLemmas.{launched_at}
 use Rattle.path_delays.proofs.NetworkLemmas.{reads_within}

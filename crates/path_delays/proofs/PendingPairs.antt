@@ -1,12 +1,5 @@
 -- The pairs of one register that launches, by the registers of a list.
-use Rattle.std.proofs.Common.{ℕ, ◌≡◌, ◌<◌, ◌≤◌, ◌+◌, List, length, get_or, Contains, inl, inr, ◌∙◌, arith}
-use Rattle.std.proofs.lemmas.Bool.{cases_eq, cases_lt}
-use Rattle.std.proofs.lemmas.List.{get_or_default}
-use Rattle.cts_model.specs.declared.circuit.Circuit.{Circuit}
-use Rattle.cts_model.specs.declared.tech.Tech.{Tech}
-use Rattle.cts_model.specs.declared.timing.PairDelay.{PairDelay}
-use Rattle.path_delays.specs.Capturings.{AreAllReached}
-use Rattle.path_delays.specs.JoinedPairs.{ListsPairsBefore}
+use Rattle.path_delays.proofs.Vocabulary.{ℕ, ◌≡◌, ◌<◌, ◌≤◌, ◌+◌, List, length, get_or, Contains, inl, inr, ◌∙◌, arith, cases_eq, cases_lt, get_or_default, Circuit, Tech, PairDelay, AreAllReached, ListsPairsBefore}
 use Rattle.path_delays.proofs.PairWalk.{skip_pairs, register_next}
 
 -- the registers before a place in the list are below the next number, and the others aren't

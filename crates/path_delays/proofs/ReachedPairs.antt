@@ -1,23 +1,6 @@
 -- From what a walk found at the signals that a register captures to the delays between the two
 -- registers.
-use Rattle.std.proofs.Common.{ℕ, ◌≡◌, ◌<◌, List, [], ◌∷◌, length, get_or, All, Contains, Option, Some, None, refl, sym, ◌∙◌, subst, arith, ◌≤ℤ◌}
-use Rattle.std.specs.List.{slice_get}
-use Rattle.std.specs.Option.{option_and_then}
-use Rattle.std.proofs.lemmas.Int.{ints}
-use Rattle.std.proofs.lemmas.Option.{slice_get_within, get_or_from_slice_get}
-use Rattle.cts_model.specs.declared.signal.Signal.{Signal}
-use Rattle.cts_model.specs.declared.circuit.Circuit.{Circuit}
-use Rattle.cts_model.specs.declared.tech.Tech.{Tech}
-use Rattle.cts_model.specs.declared.timing.PairDelay.{PairDelay}
-use Rattle.cts_model.specs.netlist.Paths.{register_signal, Captures, IsPath}
-use Rattle.cts_model.specs.timing.Delays.{least_delay, greatest_delay}
-use Rattle.path_delays.specs.declared.sums.Sums.{Sums}
-use Rattle.path_delays.specs.declared.walk.Walk.{Walk}
-use Rattle.path_delays.specs.Reaches.{IsChain, AreExtreme, IsReach}
-use Rattle.path_delays.specs.WalkParts.{sums_to, ReachesEach}
-use Rattle.path_delays.specs.Captured.{AreCapturedBy}
-use Rattle.path_delays.specs.Carrying.{AreExtremesOf, StandsAt}
-use Rattle.path_delays.specs.JoinedPairs.{IsDelayBetween}
+use Rattle.path_delays.proofs.Vocabulary.{ℕ, ◌≡◌, ◌<◌, List, [], ◌∷◌, length, get_or, All, Contains, Option, Some, None, refl, sym, ◌∙◌, subst, arith, ◌≤ℤ◌, slice_get, option_and_then, ints, slice_get_within, get_or_from_slice_get, Signal, Circuit, Tech, PairDelay, register_signal, Captures, IsPath, least_delay, greatest_delay, Sums, Walk, IsChain, AreExtreme, IsReach, sums_to, ReachesEach, AreCapturedBy, AreExtremesOf, StandsAt, IsDelayBetween}
 
 -- what a signal reads are signals of the circuit
 pub read_within : (circuit : Circuit) (number : ℕ) (signal : Signal)
@@ -85,8 +68,7 @@ module _ (circuit : Circuit) (tech : Tech) (from to lane : ℕ) (walk : Walk) (c
   -- the delays of a path lie within the extremes at all captured signals
   path_within : (sums : Sums)
       → AreExtremesOf (StandsAt (sums_to walk lane) (Contains captured)) sums → (path : List ℕ)
-      → IsPath circuit from to path
-      → (sums.least ≤ℤ least_delay circuit tech path)
+      → IsPath circuit from to path → (sums.least ≤ℤ least_delay circuit tech path)
       × (greatest_delay circuit tech path ≤ℤ sums.greatest)
   path_within sums are path is_path =
       let chain = chain_of_path circuit from to path is_path in

@@ -1,26 +1,6 @@
 -- Room for a walk over a network.
-use Rattle.std.proofs.Common.{◌≡◌, ◌≢◌, ◌+◌, ◌-◌, ◌*◌, ◌^◌, ◌<◌, ◌≤◌, ℕ, zero, suc, ℤ, ◌-ℤ◌, ◌≤ℤ◌, List, [], ◌∷◌, length, map, take, get_or, All, AllPairs, inl, inr, refl, sym, ◌∙◌, ap, subst, arith}
-use Rattle.std.specs.Prelude.{true, false, Bool, if◌then◌else◌}
-use Rattle.std.specs.Int.{int_max}
-use Rattle.std.specs.List.{slice_index_or, sum_by}
-use Rattle.std.proofs.lemmas.Bool.{cases_lt}
-use Rattle.std.proofs.lemmas.List.{length-map, take_all}
-use Rattle.std.proofs.lemmas.List.Sums.{get_or-le-sum_by, sum_by_more, sum_by-cons, sum_by-le-sum_by, sum_by-take-le, sum-map}
-use Rattle.std.proofs.lemmas.List.Elements.{All-map, Contains-get_or}
-use Rattle.std.proofs.lemmas.Option.{slice_get_within}
-use Rattle.std.proofs.lemmas.Int.{ints}
-use Rattle.cts_model.specs.declared.signal.Signal.{Signal}
-use Rattle.cts_model.specs.declared.circuit.Circuit.{Circuit}
-use Rattle.cts_model.specs.declared.tech.Tech.{Tech}
-use Rattle.gate_order.specs.GroupParts.{group_of}
-use Rattle.path_delays.specs.declared.sums.Sums.{Sums}
-use Rattle.path_delays.specs.declared.network.Network.{Network}
-use Rattle.path_delays.specs.declared.reach.Reach.{Reach}
-use Rattle.path_delays.specs.SumParts.{AreWithin, delay_limit}
-use Rattle.path_delays.specs.Networks.{IsLeftAfter, IsNetworkOf, gate_sums, weight_of}
-use Rattle.path_delays.specs.NarrowParts.{narrow_limit}
-use Rattle.path_delays.specs.LaneTables.{rows_of}
-use Rattle.path_delays.specs.Handing.{HasReachRoom, limit_at, limit_of, most_at, most_of, no_delay, rank_at}
+use Rattle.path_delays.proofs.Vocabulary.{◌≡◌, ◌≢◌, ◌+◌, ◌-◌, ◌*◌, ◌^◌, ◌<◌, ◌≤◌, ℕ, zero, suc, ℤ, ◌-ℤ◌, ◌≤ℤ◌, List, [], ◌∷◌, length, map, take, get_or, All, AllPairs, inl, inr, refl, sym, ◌∙◌, ap, subst, arith, if◌then◌else◌, int_max, slice_index_or, sum_by, cases_lt, length-map, take_all, get_or-le-sum_by, sum_by_more, sum_by-cons, sum_by-le-sum_by, sum_by-take-le, sum-map, All-map, Contains-get_or, slice_get_within, ints, Signal, Circuit, Tech, group_of, Sums, Network, Reach, AreWithin, delay_limit, IsLeftAfter, IsNetworkOf, gate_sums, weight_of, narrow_limit, rows_of, HasReachRoom, limit_at, limit_of, most_at, most_of, no_delay, rank_at}
+use Rattle.std.specs.Prelude.{true, false, Bool}
 use Rattle.path_delays.proofs.DelayLemmas.{gate_within}
 use Rattle.path_delays.proofs.NetworkLemmas.{distinct_sum-le, reader_within, weights_within}
 use Rattle.path_delays.proofs.SumLemmas.{most_below, most_is, within_most}
@@ -179,10 +159,8 @@ module _ (circuit : Circuit) (tech : Tech) (network : Network)
       → length (rows_of reach.lanes) ≡ length circuit.signals
       → length circuit.signals < 64 * length reach.reached.words.items
       → gates < 64 * length reach.waiting.words.items
-      → 64 * length reach.waiting.words.items < 2 ^ 32
-      → limit_of reach ≤ delay_limit
-      → 1000000 + sum_by most_of network.delays.items ≤ limit_of reach
-      → HasReachRoom network reach
+      → 64 * length reach.waiting.words.items < 2 ^ 32 → limit_of reach ≤ delay_limit
+      → 1000000 + sum_by most_of network.delays.items ≤ limit_of reach → HasReachRoom network reach
   HasReachRoom-made reach gates few lanes reached waiting small known total =
       let covers : length circuit.signals ≡ length network.ranks.items = sym is.ranks.covers in
       record {

@@ -1,13 +1,6 @@
 -- Sums: the lesser and the greater of two, what they are around, and the limits that they keep.
-use Rattle.std.proofs.Common.{◌≡◌, ◌+◌, ◌≤◌, ℕ, ℤ, pos, ◌≤ℤ◌, Bool, true, false, cond, Option, Some, None, inl, inr, ◌⊎◌, refl, sym, subst, arith}
-use Rattle.std.specs.Int.{int_min, int_max}
-use Rattle.std.specs.Int.Signed.{lt_z}
-use Rattle.std.proofs.lemmas.Int.{ints, clamps}
-use Rattle.cts_model.specs.table.Tables.{IsWithin}
+use Rattle.path_delays.proofs.Vocabulary.{◌≡◌, ◌+◌, ◌≤◌, ℕ, ℤ, pos, ◌≤ℤ◌, Bool, true, false, cond, Option, Some, None, inl, inr, ◌⊎◌, refl, sym, subst, arith, int_min, int_max, lt_z, ints, clamps, IsWithin, Sums, AreWithin, IsAround, AreAround, joined_sums, sums_through, most_of}
 use Rattle.cts_model.proofs.ScaleLemmas.{size_same}
-use Rattle.path_delays.specs.declared.sums.Sums.{Sums}
-use Rattle.path_delays.specs.SumParts.{AreWithin, IsAround, AreAround, joined_sums, sums_through}
-use Rattle.path_delays.specs.Handing.{most_of}
 
 -- the lesser of two numbers is one of them, and no greater than either
 pub min_cases : (x y : ℤ)

@@ -1,30 +1,7 @@
 -- The sweep over the signals: what registers launch, then gate after gate, then what is captured.
-use Rattle.std.proofs.Common.{◌≡◌, ◌+◌, ◌*◌, ◌^◌, ◌<◌, ◌⊎◌, ℕ, ℤ, pos, ◌+ℤ◌, ◌*ℤ◌, true, IsTrue, List, [], ◌∷◌, ◌++◌, length, take, set, get_or, replicate, All, Contains, MatchBool, Option, Some, None, IsSomeAnd, inl, inr, refl, sym, ◌∙◌, ap, subst, arith}
-use Rattle.std.specs.Prelude.{nat_abs}
-use Rattle.std.specs.List.{slice_get}
-use Rattle.std.specs.Option.{IfSome, option_and_then, option_map}
-use Rattle.std.proofs.lemmas.Bool.{cases_eq, cases_lt}
-use Rattle.std.proofs.lemmas.Int.{ints}
-use Rattle.std.proofs.lemmas.List.{length-replicate, get_or-replicate, get_or_past, length-set, get_or-set_same, get_or-set_other, get_or-take, length-take-le, take_more, take_all}
-use Rattle.std.proofs.lemmas.List.Elements.{Contains-get_or, Contains-push_cases}
-use Rattle.std.proofs.lemmas.Option.{same_Some, slice_get_within, slice_get_read, slice_get-get_or, get_or_from_slice_get}
-use Rattle.cts_model.specs.declared.signal.Signal.{Signal}
-use Rattle.cts_model.specs.declared.circuit.Circuit.{Circuit}
+use Rattle.path_delays.proofs.Vocabulary.{◌≡◌, ◌+◌, ◌*◌, ◌^◌, ◌<◌, ◌⊎◌, ℕ, ℤ, pos, ◌+ℤ◌, ◌*ℤ◌, true, IsTrue, List, [], ◌∷◌, ◌++◌, length, take, set, get_or, replicate, All, Contains, MatchBool, Option, Some, None, IsSomeAnd, inl, inr, refl, sym, ◌∙◌, ap, subst, arith, nat_abs, slice_get, IfSome, option_and_then, option_map, cases_eq, cases_lt, ints, length-replicate, get_or-replicate, get_or_past, length-set, get_or-set_same, get_or-set_other, get_or-take, length-take-le, take_more, take_all, Contains-get_or, Contains-push_cases, same_Some, slice_get_within, slice_get_read, slice_get-get_or, get_or_from_slice_get, Signal, Circuit, Tech, least_through, greatest_through, least_delay, greatest_delay, is_gate, is_host, is_valid, IsGate, IsInput, Reads, Launches, Captures, IsTopologicalOrder, IsGate-from_Reads, gate_within, Sums, Window, along, AreExtremesIfAny, AreLaunchedBy, AreShownBy, Comes, IsJoinedAt, StandsAt, gate_sums_at, gate_sums, AreAround, sums_through, window_along, IsHullIfAny, IsWindowBelow, ComesTo, AreWindows, window_after, either_window, window_at, AreBelow, IsGateWindow, AreCaptures, BegunTo, start_window, window_limit, sums_of, sums_in, scaled_delay, AreSwept, StartsBelow, NoneHanded, HandedToPassed, AreLaunched, ArePassed}
 use Rattle.cts_model.specs.declared.schedule.Schedule.{Schedule}
-use Rattle.cts_model.specs.declared.tech.Tech.{Tech}
-use Rattle.cts_model.specs.timing.Delays.{least_through, greatest_through, least_delay, greatest_delay}
-use Rattle.cts_model.specs.netlist.Kinds.{is_gate, is_host, is_valid}
-use Rattle.cts_model.specs.netlist.Paths.{IsGate, IsInput, Reads, Launches, Captures}
 use Rattle.cts_model.specs.timing.Schedules.{arrival_of}
-use Rattle.gate_order.specs.Orders.{IsTopologicalOrder}
-use Rattle.gate_order.proofs.ReadLemmas.{IsGate-from_Reads, gate_within}
-use Rattle.path_delays.specs.declared.sums.Sums.{Sums}
-use Rattle.path_delays.specs.declared.window.Window.{Window}
-use Rattle.path_delays.specs.Carrying.{along, AreExtremesIfAny, AreLaunchedBy, AreShownBy, Comes, IsJoinedAt, StandsAt, gate_sums_at}
-use Rattle.path_delays.specs.Networks.{gate_sums}
-use Rattle.path_delays.specs.SumParts.{AreAround, sums_through}
-use Rattle.path_delays.specs.Windows.{window_along, IsHullIfAny, IsWindowBelow, ComesTo, AreWindows}
-use Rattle.path_delays.specs.WindowParts.{window_after, either_window, window_at, AreBelow, IsGateWindow, AreCaptures, BegunTo, start_window, window_limit, sums_of, sums_in, scaled_delay, AreSwept, StartsBelow, NoneHanded, HandedToPassed, AreLaunched, ArePassed}
 use Rattle.path_delays.proofs.CarryLemmas.{IsHandedBy, carried_end, carried_joined, carried_none, carried_same, extremes_of_extremes, gate_around, gate_shown, listed_next, shown_start}
 use Rattle.path_delays.proofs.SumLemmas.{around_itself}
 use Rattle.path_delays.proofs.NetworkDelays.{gate_sums_are}
@@ -40,8 +17,7 @@ launcher_within circuit from number launches = at (slice_get circuit.registers f
     at : (o : Option ℕ) → slice_get circuit.registers from ≡ o
         → IsSomeAnd (option_and_then (slice_get circuit.signals) o)
         (λ signal. MatchBool (is_host signal.kind) (IsInput circuit number)
-        (slice_get circuit.registers from ≡ Some number))
-        → from < length circuit.registers
+        (slice_get circuit.registers from ≡ Some number)) → from < length circuit.registers
     at None missing none = absurd none
     at (Some own) here launched = slice_get_within circuit.registers from own here
 
@@ -107,8 +83,7 @@ module _ (old new : List (Option Window)) (signal : ℕ) (found : Option Window)
 
   -- and as small as what stood there
   pub put_small : (bound : ℕ) → AreBelow bound old
-      → ((window : Window) → found ≡ Some window → IsWindowBelow bound window)
-      → AreBelow bound new
+      → ((window : Window) → found ≡ Some window → IsWindowBelow bound window) → AreBelow bound new
   put_small bound before now number window here = elim (cases_eq number signal) [
     | inl same ↦ below_either bound (window_at old signal) found window (before signal) now
         (sym (get_or-set_same old signal either None within)

@@ -1,24 +1,6 @@
 -- Where a walk ends: no rank waits up to one, and each lane has the sums to all up to it that its
 -- register reaches.
-use Rattle.std.proofs.Common.{◌≡◌, ◌<◌, ◌≤◌, ℕ, ◌+ℤ◌, pos, true, List, [], ◌∷◌, length, Option, Some, None, inl, inr, refl, sym, ◌∙◌, ap, subst, arith}
-use Rattle.std.specs.Option.{option_and_then}
-use Rattle.std.specs.List.{slice_get}
-use Rattle.std.proofs.lemmas.Bool.{cases_lt}
-use Rattle.std.proofs.lemmas.Int.{ints}
-use Rattle.std.proofs.lemmas.Option.{same_Some}
-use Rattle.cts_model.specs.declared.circuit.Circuit.{Circuit}
-use Rattle.cts_model.specs.declared.tech.Tech.{Tech}
-use Rattle.cts_model.specs.netlist.Paths.{Reads}
-use Rattle.cts_model.specs.timing.Delays.{least_through, greatest_through, least_delay, greatest_delay}
-use Rattle.path_delays.specs.declared.sums.Sums.{Sums}
-use Rattle.path_delays.specs.declared.network.Network.{Network}
-use Rattle.path_delays.specs.declared.reach.Reach.{Reach}
-use Rattle.path_delays.specs.Carrying.{along, AreExtremesIfAny, Comes, gate_sums_at, start_sums}
-use Rattle.path_delays.specs.SumParts.{AreWithin, delay_limit, some_sums, sums_through}
-use Rattle.path_delays.specs.Networks.{IsNetworkOf}
-use Rattle.path_delays.specs.Handing.{limit_at, rank_at, lane_at, lanes_at, sums_at, waits_at}
-use Rattle.path_delays.specs.Reaches.{IsChain, IsReach}
-use Rattle.path_delays.specs.Walking.{AllBelow, IsSpreadBelow, LanesBelow, StartsIn}
+use Rattle.path_delays.proofs.Vocabulary.{◌≡◌, ◌<◌, ◌≤◌, ℕ, ◌+ℤ◌, pos, true, List, [], ◌∷◌, length, Option, Some, None, inl, inr, refl, sym, ◌∙◌, ap, subst, arith, option_and_then, slice_get, cases_lt, ints, same_Some, Circuit, Tech, Reads, least_through, greatest_through, least_delay, greatest_delay, Sums, Network, Reach, along, AreExtremesIfAny, Comes, gate_sums_at, start_sums, AreWithin, delay_limit, some_sums, sums_through, IsNetworkOf, limit_at, rank_at, lane_at, lanes_at, sums_at, waits_at, IsChain, IsReach, AllBelow, IsSpreadBelow, LanesBelow, StartsIn}
 use Rattle.path_delays.proofs.CarryLemmas.{carried_end}
 use Rattle.path_delays.proofs.LaneLemmas.{bounded_higher, bounded_some, lanes_there, some_is_there}
 use Rattle.path_delays.proofs.NetworkDelays.{limit_within}

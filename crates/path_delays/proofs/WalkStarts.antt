@@ -1,26 +1,6 @@
 -- Where a walk starts: at nothing, at a signal that is marked in a lane, and at all that a register
 -- launches.
-use Rattle.std.proofs.Common.{◌≡◌, ◌≢◌, ◌+◌, ◌<◌, ◌≤◌, ℕ, List, [], length, take, get_or, Contains, Option, Some, None, inl, inr, ◌⊎◌, refl, sym, ◌∙◌, ap, subst, arith}
-use Rattle.std.specs.Prelude.{IsSome}
-use Rattle.std.specs.Option.{option_and_then, option_map, unwrap_or}
-use Rattle.std.specs.List.{slice_get}
-use Rattle.std.proofs.lemmas.Bool.{cases_eq, cases_lt, true≢false}
-use Rattle.std.proofs.lemmas.List.{take_all}
-use Rattle.std.proofs.lemmas.List.Elements.{Contains-get_or}
-use Rattle.std.proofs.lemmas.Option.{same_Some}
-use Rattle.cts_model.specs.declared.circuit.Circuit.{Circuit}
-use Rattle.cts_model.specs.declared.tech.Tech.{Tech}
-use Rattle.cts_model.specs.netlist.Paths.{Launches, Reads}
-use Rattle.path_delays.specs.declared.lanes.Lanes.{Lanes}
-use Rattle.path_delays.specs.declared.sums.Sums.{Sums}
-use Rattle.path_delays.specs.declared.network.Network.{Network}
-use Rattle.path_delays.specs.declared.reach.Reach.{Reach}
-use Rattle.path_delays.specs.Carrying.{AreCarried, AreLaunchedBy, AreShownBy, Comes, IsJoinedAt, gate_sums_at, start_sums}
-use Rattle.path_delays.specs.LaneParts.{AllBounded, lane_of}
-use Rattle.path_delays.specs.SumParts.{AreAround, AreBounded, AreWithin, either_sums, merged_sums, no_sums, some_sums}
-use Rattle.path_delays.specs.Networks.{IsNetworkOf}
-use Rattle.path_delays.specs.Handing.{limit_at, limit_of, rank_at, lane_at, lanes_at, sums_at, HasReachRoom, IsCleared, IsMarked, IsStarted}
-use Rattle.path_delays.specs.Walking.{AllBelow, AllBelowBut, BegunIn, IsSpread, IsSpreadBelow, LanesBelow, StartsIn}
+use Rattle.path_delays.proofs.Vocabulary.{◌≡◌, ◌≢◌, ◌+◌, ◌<◌, ◌≤◌, ℕ, List, [], length, take, get_or, Contains, Option, Some, None, inl, inr, ◌⊎◌, refl, sym, ◌∙◌, ap, subst, arith, IsSome, option_and_then, option_map, unwrap_or, slice_get, cases_eq, cases_lt, true≢false, take_all, Contains-get_or, same_Some, Circuit, Tech, Launches, Reads, Lanes, Sums, Network, Reach, AreCarried, AreLaunchedBy, AreShownBy, Comes, IsJoinedAt, gate_sums_at, start_sums, AllBounded, lane_of, AreAround, AreBounded, AreWithin, either_sums, merged_sums, no_sums, some_sums, IsNetworkOf, limit_at, limit_of, rank_at, lane_at, lanes_at, sums_at, HasReachRoom, IsCleared, IsMarked, IsStarted, AllBelow, AllBelowBut, BegunIn, IsSpread, IsSpreadBelow, LanesBelow, StartsIn}
 use Rattle.path_delays.proofs.CarryLemmas.{IsHandedBy, carried_joined, carried_none, carried_same, listed_next, shown_start}
 use Rattle.path_delays.proofs.SumLemmas.{around_itself}
 use Rattle.path_delays.proofs.LaneLemmas.{bounded_joined, none_missing, some_is, some_mapped, some_merged, some_within}

@@ -1,28 +1,6 @@
 -- A walk that takes the gates by rank and hands their sums to their readers, one step after the
 -- other.
-use Rattle.std.proofs.Common.{◌≡◌, ◌≢◌, ◌+◌, ◌-◌, ◌<◌, ◌≤◌, ◌==◌, ◌&&◌, ◌||◌, not, ℕ, suc, Bool, true, false, List, [], ◌∷◌, ◌++◌, length, get_or, Contains, Option, Some, None, inl, inr, ◌⊎◌, refl, sym, ◌∙◌, ap, subst, arith, append-nil, append_assoc}
-use Rattle.std.specs.Prelude.{is_none, IsSome}
-use Rattle.std.specs.Option.{option_and_then, option_map}
-use Rattle.std.specs.List.{slice_get}
-use Rattle.std.proofs.lemmas.Bool.{cases_eq, cases_lt, eqb-true, eq-eqb, ne_eqb, and_parts, or_cases, or_left, or_right, true≢false}
-use Rattle.std.proofs.lemmas.List.Elements.{Contains-push_cases}
-use Rattle.std.proofs.lemmas.Option.{same_Some, get_or_from_slice_get}
-use Rattle.cts_model.specs.declared.circuit.Circuit.{Circuit}
-use Rattle.cts_model.specs.declared.tech.Tech.{Tech}
-use Rattle.cts_model.specs.netlist.Paths.{IsGate, Reads}
-use Rattle.gate_order.specs.GroupParts.{group_of}
-use Rattle.gate_order.proofs.ReadLemmas.{IsGate-from_Reads, gate_within}
-use Rattle.path_delays.specs.declared.lanes.Lanes.{Lanes}
-use Rattle.path_delays.specs.declared.sums.Sums.{Sums}
-use Rattle.path_delays.specs.declared.network.Network.{Network}
-use Rattle.path_delays.specs.declared.reach.Reach.{Reach}
-use Rattle.path_delays.specs.Carrying.{IsJoinedAt, gate_sums_at}
-use Rattle.path_delays.specs.LaneParts.{AllBounded, lane_of}
-use Rattle.path_delays.specs.SumParts.{AreAround, AreBounded, either_sums, joined_sums, some_sums, sums_through}
-use Rattle.path_delays.specs.NumberSets.{IsLowestTaken}
-use Rattle.path_delays.specs.Networks.{IsNetworkOf}
-use Rattle.path_delays.specs.Handing.{limit_at, limit_of, most_at, rank_at, lane_at, lanes_at, sums_at, waits_at, HasReachRoom, IsHanded, AreHanded, IsHandedOn}
-use Rattle.path_delays.specs.Walking.{AllBelow, AllBelowBut, IsDue, IsSpread, StartsIn}
+use Rattle.path_delays.proofs.Vocabulary.{◌≡◌, ◌≢◌, ◌+◌, ◌-◌, ◌<◌, ◌≤◌, ◌==◌, ◌&&◌, ◌||◌, not, ℕ, suc, Bool, true, false, List, [], ◌∷◌, ◌++◌, length, get_or, Contains, Option, Some, None, inl, inr, ◌⊎◌, refl, sym, ◌∙◌, ap, subst, arith, append-nil, append_assoc, is_none, IsSome, option_and_then, option_map, slice_get, cases_eq, cases_lt, eqb-true, eq-eqb, ne_eqb, and_parts, or_cases, or_left, or_right, true≢false, Contains-push_cases, same_Some, get_or_from_slice_get, Circuit, Tech, IsGate, Reads, group_of, IsGate-from_Reads, gate_within, Lanes, Sums, Network, Reach, IsJoinedAt, gate_sums_at, AllBounded, lane_of, AreAround, AreBounded, either_sums, joined_sums, some_sums, sums_through, IsLowestTaken, IsNetworkOf, limit_at, limit_of, most_at, rank_at, lane_at, lanes_at, sums_at, waits_at, HasReachRoom, IsHanded, AreHanded, IsHandedOn, AllBelow, AllBelowBut, IsDue, IsSpread, StartsIn}
 use Rattle.path_delays.proofs.CarryLemmas.{IsHandedBy, carried_joined, carried_same, shown_passed}
 use Rattle.path_delays.proofs.SumLemmas.{around_itself}
 use Rattle.path_delays.proofs.LaneLemmas.{bounded_higher, bounded_joined, bounded_through, some_joined, some_mapped, some_through, lanes_there}
@@ -285,8 +263,7 @@ module _ (circuit : Circuit) (tech : Tech) (network : Network)
   all_handed : (old new : Reach) (given : Lanes) (rank pending : ℕ) (gates more : List ℕ)
       → rank_at network pending + 1 ≡ rank
       → ((gate : ℕ) → Contains more gate → Reads circuit.signals gate pending)
-      → lanes_at old pending ≡ Some given
-      → Spread (AllBelowBut network rank pending gates) rank old
+      → lanes_at old pending ≡ Some given → Spread (AllBelowBut network rank pending gates) rank old
       → AreHanded network given more old new
       → Spread (AllBelowBut network rank pending (gates ++ more)) rank
       new
@@ -308,10 +285,8 @@ module _ (circuit : Circuit) (tech : Tech) (network : Network)
   -- a signal that has handed its sums to all its readers is done
   pub IsSpread-on : (old new : Reach) (rank pending : ℕ) (given : Lanes)
       → rank_at network pending + 1 ≡ rank → pending < length circuit.signals
-      → lanes_at old pending ≡ Some given
-      → Spread (AllBelowBut network rank pending []) rank old
-      → IsHandedOn network pending old new
-      → Spread (AllBelow network rank) rank new
+      → lanes_at old pending ≡ Some given → Spread (AllBelowBut network rank pending []) rank old
+      → IsHandedOn network pending old new → Spread (AllBelow network rank) rank new
   IsSpread-on old new rank pending given next inside held so_far handed_on =
       let readers = group_of network.readers pending in
       let all = all_handed old new given rank pending [] readers next

@@ -1,30 +1,6 @@
 -- Times and windows in memory, and those that are put at signals and registers.
-use Rattle.std.proofs.Common.{◌≡◌, ◌+◌, ◌*◌, ◌≤◌, ◌^◌, ℕ, ℤ, pos, ◌+ℤ◌, ◌*ℤ◌, true, false, cond, IsTrue, ◌⊎◌, List, [], ◌∷◌, ◌++◌, length, Option, Some, None, inl, inr, refl, sym, ◌∙◌, ap, subst, arith}
-use Rattle.std.specs.Int.{w64, w128}
-use Rattle.std.specs.List.{slice_get}
-use Rattle.std.specs.Option.{option_map}
-use Rattle.std.proofs.Math.Nat.{mul-add}
-use Rattle.std.proofs.lemmas.Bool.{cases_lt}
-use Rattle.std.proofs.lemmas.Int.{ints, to_z-of_z}
-use Rattle.std.proofs.lemmas.List.{length_push, get_or_push, get_or_append_left}
-use Rattle.std.proofs.lemmas.Option.{same_Some, slice_get_within, slice_get-get_or, get_or_from_slice_get}
-use Rattle.cts_model.specs.declared.signal.Signal.{Signal}
-use Rattle.cts_model.specs.declared.circuit.Circuit.{Circuit}
-use Rattle.cts_model.specs.netlist.Kinds.{is_gate, is_host, is_valid}
-use Rattle.cts_model.specs.declared.kind.Kind.{Kind}
-use Rattle.cts_model.specs.declared.kind.Kind.TheVariants.{Host}
-use Rattle.cts_model.specs.declared.tech.Tech.{Tech}
-use Rattle.cts_model.specs.netlist.Circuits.{gate_inputs}
-use Rattle.cts_model.specs.netlist.Paths.{Captures}
+use Rattle.path_delays.proofs.Vocabulary.{◌≡◌, ◌+◌, ◌*◌, ◌≤◌, ◌^◌, ℕ, ℤ, pos, ◌+ℤ◌, ◌*ℤ◌, true, false, cond, IsTrue, ◌⊎◌, List, [], ◌∷◌, ◌++◌, length, Option, Some, None, inl, inr, refl, sym, ◌∙◌, ap, subst, arith, w64, w128, slice_get, option_map, mul-add, cases_lt, ints, to_z-of_z, length_push, get_or_push, get_or_append_left, same_Some, slice_get_within, slice_get-get_or, get_or_from_slice_get, Signal, Circuit, is_gate, is_host, is_valid, Kind, Host, Tech, gate_inputs, Captures, IsWithin, Window, Sums, AreExtremesIfAny, StandsAt, IsWindowBelow, gate_sums, weight_of, AreWithin, either_sums, merged_windows, either_window, window_at, AreBelow, AreCaptures, sums_in, sums_of}
 use Rattle.cts_model.specs.placement.Points.{IsBelow}
-use Rattle.cts_model.specs.table.Tables.{IsWithin}
-use Rattle.path_delays.specs.declared.window.Window.{Window}
-use Rattle.path_delays.specs.declared.sums.Sums.{Sums}
-use Rattle.path_delays.specs.Carrying.{AreExtremesIfAny, StandsAt}
-use Rattle.path_delays.specs.Windows.{IsWindowBelow}
-use Rattle.path_delays.specs.Networks.{gate_sums, weight_of}
-use Rattle.path_delays.specs.SumParts.{AreWithin, either_sums}
-use Rattle.path_delays.specs.WindowParts.{merged_windows, either_window, window_at, AreBelow, AreCaptures, sums_in, sums_of}
 use Rattle.path_delays.proofs.CaptureLemmas.{few_inputs}
 use Rattle.path_delays.proofs.DelayLemmas.{gate_within}
 use Rattle.path_delays.proofs.Rooms.{within_higher}
@@ -178,8 +154,7 @@ pushed_cases xs x y place here =
 pub captures_next : (circuit : Circuit) (windows captured : List (Option Window)) (register : ℕ)
     (found : Option Window)
     → AreExtremesIfAny (StandsAt (sums_in windows) (Captures circuit register))
-    (option_map sums_of found)
-    → AreCaptures circuit windows register captured
+    (option_map sums_of found) → AreCaptures circuit windows register captured
     → AreCaptures circuit windows (register + 1) (captured ++ found ∷ [])
 captures_next circuit windows captured register found extremes so_far = record {
   registers = omega (arith, length_push captured found, so_far.registers);

@@ -1,3 +1,4 @@
+mod Vocabulary
 mod SourceLemmas
 mod RegionBounds
 mod Standing

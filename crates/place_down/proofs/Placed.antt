@@ -1,34 +1,9 @@
 -- A tree whose nodes all have their places.
-use Rattle.std.proofs.Common.{◌≡◌, ◌↔◌, ℕ, ◌+◌, ◌-◌, ◌*◌, ◌^◌, ◌<◌, ◌≤◌, inl, inr, true, false, ℤ, pos, ◌-ℤ◌, ◌*ℤ◌, ◌≤ℤ◌, List, Some, unwrap_or, length, get_or, slice_get, slice_set, refl, sym, ap, subst, ◌∙◌, arith}
+use Rattle.place_down.proofs.Vocabulary.{◌≡◌, ◌↔◌, ℕ, ◌+◌, ◌-◌, ◌*◌, ◌^◌, ◌<◌, ◌≤◌, inl, inr, true, false, ℤ, pos, ◌-ℤ◌, ◌*ℤ◌, ◌≤ℤ◌, List, Some, unwrap_or, length, get_or, slice_get, slice_set, refl, sym, ap, subst, ◌∙◌, arith, cases_lt, ints, clamps, slice_get_cases, slice_get_within, slice_get-get_or, get_or_from_slice_get, Point, Sink, Uv, Merge, Show, AreChosen, IsEmbedding, embedding_of, IsBelow, IsMultipleOf, IsUvBelow, IsUvMultipleOf, scaled, rotated, rotated_distance, InRegion, AreTreeSinks, IsTopology, IsParent, Joins, root_of, source_of, has_parent, parent_stands, distance_from_zero, same_uv, some_and, sinks_below-sink, IsMerged, IsSourcePlaced, WorkState, IsFit, IsSettled, set_held, set_kept, contains_itself, CanSettle, IsSettledBelow, StandFrom, StandsBelow, StaysAbove, standing, IsTop, HasTreeNumbers, IsEdgeLength, IsPlacedTree, IsTreeSource, StaysMerged, merged_as, reach_in, Top}
 use Rattle.std.specs.Prelude.{All, Bool, IsTrue, Option}
-use Rattle.std.proofs.lemmas.Bool.{cases_lt}
-use Rattle.std.proofs.lemmas.Int.{ints, clamps}
 use Rattle.std.proofs.lemmas.Grind.{get_or-set_at}
-use Rattle.std.proofs.lemmas.Option.{slice_get_cases, slice_get_within, slice_get-get_or, get_or_from_slice_get}
-use Rattle.cts_model.specs.declared.place.Point.{Point}
-use Rattle.cts_model.specs.declared.place.Sink.{Sink}
-use Rattle.cts_model.specs.declared.place.Uv.{Uv}
-use Rattle.cts_model.specs.declared.tree.Merge.{Merge}
-use Rattle.cts_model.specs.declared.tree.Show.{Show}
 use Rattle.cts_model.specs.declared.tree.Show.TheVariants.{Root}
-use Rattle.cts_model.specs.tree.ChosenPlaces.{AreChosen}
-use Rattle.cts_model.specs.tree.Embeddings.{IsEmbedding, embedding_of}
-use Rattle.cts_model.specs.placement.Points.{IsBelow, IsMultipleOf, IsUvBelow, IsUvMultipleOf, scaled, rotated, rotated_distance}
-use Rattle.cts_model.specs.tree.Regions.{InRegion}
 use Rattle.cts_model.specs.tree.ShownReaches.{AreShownBy}
-use Rattle.cts_model.specs.tree.Sinks.{AreTreeSinks}
-use Rattle.cts_model.specs.tree.Topologies.{IsTopology, IsParent, Joins, root_of, source_of}
-use Rattle.cts_model.proofs.ParentLemmas.{has_parent, parent_stands}
-use Rattle.cts_model.proofs.PointLemmas.{distance_from_zero, same_uv}
-use Rattle.cts_model.proofs.TopologyLemmas.{some_and, sinks_below-sink}
-use Rattle.merge_up.specs.Merging.{IsMerged, IsSourcePlaced}
-use Rattle.merge_up.specs.Works.{WorkState, IsFit, IsSettled}
-use Rattle.merge_up.proofs.WorkLemmas.{set_held, set_kept}
-use Rattle.tilted_rect.proofs.ExtremeLemmas.{contains_itself}
-use Rattle.place_down.specs.Descents.{CanSettle, IsSettledBelow, StandFrom, StandsBelow, StaysAbove, standing}
-use Rattle.place_down.specs.Sources.{IsTop}
-use Rattle.place_down.specs.Trees.{HasTreeNumbers, IsEdgeLength, IsPlacedTree, IsTreeSource, StaysMerged, merged_as, reach_in}
-use Rattle.place_down.specs.declared.source.Top.{Top}
 use Rattle.place_down.proofs.RegionBounds.{below_more, holds_node, over_one, place_of_node, point_below_more, region_of_source}
 use Rattle.place_down.proofs.Standing.{IsReady, above_twice, can_settle, child_above, child_stands, held_small, merged_kept, merged_still, origin, point_of, stays_below}
 

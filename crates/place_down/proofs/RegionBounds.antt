@@ -1,29 +1,11 @@
 -- Where a node may stand below its parent, and how large the numbers of its place are.
-use Rattle.std.proofs.Common.{◌≤◌, ◌≡◌, ℕ, ◌+◌, ◌-◌, ◌*◌, ◌^◌, ◌<◌, inl, inr, ℤ, pos, ◌+ℤ◌, ◌-ℤ◌, ◌*ℤ◌, ◌≤ℤ◌, List, ◌++◌, Some, length, slice_get, refl, sym, subst, arith}
-use Rattle.std.specs.List.{Contains}
-use Rattle.std.proofs.lemmas.Bool.{cases_lt}
-use Rattle.std.proofs.lemmas.Int.{ints, clamps}
-use Rattle.std.proofs.lemmas.List.Elements.{All-contains, Contains-append_left, Contains-append_right}
-use Rattle.std.proofs.lemmas.Option.{get_or_from_slice_get, slice_get_cases}
-use Rattle.cts_model.specs.declared.place.Point.{Point}
-use Rattle.cts_model.specs.declared.place.Sink.{Sink}
-use Rattle.cts_model.specs.declared.place.Uv.{Uv}
-use Rattle.cts_model.specs.declared.tree.Merge.{Merge}
-use Rattle.cts_model.specs.tree.ChosenPlaces.{IsChosenPlace, IsSourceReach}
-use Rattle.cts_model.specs.placement.Points.{IsBelow, IsMultipleOf, IsPointBelow, IsUvBelow, apart, scaled, rotated, rotated_distance}
-use Rattle.cts_model.specs.tree.Regions.{InRegion, IsReach}
-use Rattle.cts_model.specs.tree.Sinks.{AreTreeSinks, IsTreeSink}
-use Rattle.cts_model.specs.tree.Topologies.{IsTopology, Joins, sinks_below, source_of}
-use Rattle.cts_model.proofs.TopologyLemmas.{some_and, sinks_below-sink, sinks_below-merge, sinks_below-among, some_sink}
-use Rattle.merge_up.specs.Merging.{IsMerged, IsPointOf}
-use Rattle.merge_up.specs.Works.{WorkState}
+use Rattle.place_down.proofs.Vocabulary.{◌≤◌, ◌≡◌, ℕ, ◌+◌, ◌-◌, ◌*◌, ◌^◌, ◌<◌, inl, inr, ℤ, pos, ◌+ℤ◌, ◌-ℤ◌, ◌*ℤ◌, ◌≤ℤ◌, List, ◌++◌, Some, length, slice_get, refl, sym, subst, arith, Contains, cases_lt, ints, clamps, All-contains, Contains-append_left, Contains-append_right, get_or_from_slice_get, slice_get_cases, Point, Sink, Uv, Merge, IsChosenPlace, IsSourceReach, IsBelow, IsMultipleOf, IsPointBelow, IsUvBelow, apart, scaled, rotated, rotated_distance, InRegion, IsReach, AreTreeSinks, IsTreeSink, IsTopology, Joins, sinks_below, source_of, some_and, sinks_below-sink, sinks_below-merge, sinks_below-among, some_sink, IsMerged, IsPointOf, WorkState, reach_in}
 use Rattle.tilted_rect.specs.Extremes.{IsRegion}
 use Rattle.tilted_rect.specs.Rects.{IsNearest}
 use Rattle.tilted_rect.specs.declared.rect.Rect.{Rect}
 use Rattle.tilted_rect.proofs.MergeLemmas.{sink_reach, sink_region}
 use Rattle.tilted_rect.proofs.MultipleLemmas.{reach_is_multiple}
 use Rattle.tilted_rect.proofs.RegionLemmas.{region_has_point, wider_region_is_near}
-use Rattle.place_down.specs.Trees.{reach_in}
 use Rattle.place_down.proofs.SourceLemmas.{distance_below}
 
 -- ---- plain points

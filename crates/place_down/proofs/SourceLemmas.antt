@@ -1,19 +1,6 @@
 -- How far the source reaches, one sink after the other.
-use Rattle.std.proofs.Common.{◌≡◌, ℕ, ◌*◌, ◌^◌, inl, inr, ℤ, pos, ◌+ℤ◌, ◌-ℤ◌, ◌≤ℤ◌, ◌<ℤ◌, List, [], ◌∷◌, ◌++◌, Some, slice_get, refl, sym, subst, true, false, cond, int_lt, arith}
-use Rattle.std.specs.List.{Contains}
-use Rattle.std.proofs.lemmas.Int.{ints, clamps}
-use Rattle.std.specs.Int.{int_max}
-use Rattle.std.proofs.lemmas.List.Elements.{Contains-append_cases, Contains-append_left, Contains-append_right}
-use Rattle.cts_model.specs.declared.place.Sink.{Sink}
-use Rattle.cts_model.specs.declared.place.Uv.{Uv}
-use Rattle.cts_model.specs.declared.tree.Show.{Show}
+use Rattle.place_down.proofs.Vocabulary.{◌≡◌, ℕ, ◌*◌, ◌^◌, inl, inr, ℤ, pos, ◌+ℤ◌, ◌-ℤ◌, ◌≤ℤ◌, ◌<ℤ◌, List, [], ◌∷◌, ◌++◌, Some, slice_get, refl, sym, subst, true, false, cond, int_lt, arith, Contains, ints, clamps, int_max, Contains-append_cases, Contains-append_left, Contains-append_right, Sink, Uv, Show, IsBelow, IsMultipleOf, IsUvBelow, apart, rotated_distance, IsTreeSink, contains_itself, contains_one, IsTop, IsTreeSource, Top}
 use Rattle.cts_model.specs.declared.tree.Show.TheVariants as shows
-use Rattle.cts_model.specs.placement.Points.{IsBelow, IsMultipleOf, IsUvBelow, apart, rotated_distance}
-use Rattle.cts_model.specs.tree.Sinks.{IsTreeSink}
-use Rattle.tilted_rect.proofs.ExtremeLemmas.{contains_itself, contains_one}
-use Rattle.place_down.specs.Sources.{IsTop}
-use Rattle.place_down.specs.Trees.{IsTreeSource}
-use Rattle.place_down.specs.declared.source.Top.{Top}
 
 -- ---- a sink's distance with its offset
 
@@ -67,8 +54,7 @@ not_by_root register same = subst IsByRoot (sym same) tt
 
 -- before any sink is looked at the source reaches as far as the root
 pub top_first : (sinks : List Sink) (source : Uv) (root : ℤ) → IsBelow (3 * 10 ^ 31) root
-    → IsMultipleOf 4 root
-    → IsTop sinks [] source root (record { reach = root; show = shows.Root })
+    → IsMultipleOf 4 root → IsTop sinks [] source root (record { reach = root; show = shows.Root })
 top_first sinks source root below multiple = record {
   reach = record {
     above_root = omega (arith, ints);
@@ -119,8 +105,7 @@ module _ {sinks first : List Sink} {source : Uv} {root : ℤ} {top : Top} (sink 
   -- one that is further shows how far the source reaches
   pub top_further : (register : ℕ) (reach : ℤ) → slice_get sinks register ≡ Some sink
       → reach ≡ far source sink → top.reach <ℤ reach → IsBelow (3 * 10 ^ 31) reach
-      → IsMultipleOf 8 reach
-      → IsTop sinks (first ++ sink ∷ []) source root
+      → IsMultipleOf 8 reach → IsTop sinks (first ++ sink ∷ []) source root
       (record { reach = reach; show = shows.Sink register })
   top_further register reach here is more below multiple = record {
     reach = record {

@@ -1,25 +1,5 @@
 -- The nodes that have their places, one merge after the other.
-use Rattle.std.proofs.Common.{◌≡◌, ◌≢◌, ℕ, ◌+◌, ◌*◌, ◌^◌, ◌<◌, ◌≤◌, inl, inr, true, false, ℤ, pos, ◌-ℤ◌, ◌≤ℤ◌, List, Some, length, slice_get, refl, sym, ap, subst, ◌∙◌, arith}
-use Rattle.std.proofs.lemmas.Bool.{cases_lt}
-use Rattle.std.proofs.lemmas.List.{get_or-set_same, get_or-set_other}
-use Rattle.std.proofs.lemmas.Option.{slice_get_within, get_or_from_slice_get}
-use Rattle.cts_model.specs.declared.place.Point.{Point}
-use Rattle.cts_model.specs.declared.place.Sink.{Sink}
-use Rattle.cts_model.specs.declared.place.Uv.{Uv}
-use Rattle.cts_model.specs.declared.tree.Merge.{Merge}
-use Rattle.cts_model.specs.tree.Embeddings.{embedding_of}
-use Rattle.cts_model.specs.placement.Points.{IsBelow, IsMultipleOf, IsUvBelow, IsUvMultipleOf, rotated, rotated_distance}
-use Rattle.cts_model.specs.tree.Regions.{InRegion}
-use Rattle.cts_model.specs.tree.Sinks.{AreTreeSinks}
-use Rattle.cts_model.specs.tree.Topologies.{IsTopology, IsParent, Joins, sinks_below, source_of}
-use Rattle.cts_model.proofs.ParentLemmas.{made_parent, has_parent, joined_by, parent_above, parent_stands, one_parent}
-use Rattle.cts_model.proofs.PointLemmas.{distance-rotated}
-use Rattle.cts_model.proofs.TopologyLemmas.{merge_at, merge_here}
-use Rattle.merge_up.specs.Merging.{IsMerged, IsNodeSettled, placed_as}
-use Rattle.merge_up.specs.Works.{WorkState, IsFit}
-use Rattle.merge_up.proofs.WorkLemmas.{merge_along, node_of, sink_along}
-use Rattle.place_down.specs.Descents.{CanSettle, IsSettledBelow, IsStanding, StandFrom, StandsBelow, StaysAbove, standing}
-use Rattle.place_down.specs.Trees.{StaysMerged, merged_as, reach_in}
+use Rattle.place_down.proofs.Vocabulary.{◌≡◌, ◌≢◌, ℕ, ◌+◌, ◌*◌, ◌^◌, ◌<◌, ◌≤◌, inl, inr, true, false, ℤ, pos, ◌-ℤ◌, ◌≤ℤ◌, List, Some, length, slice_get, refl, sym, ap, subst, ◌∙◌, arith, cases_lt, get_or-set_same, get_or-set_other, slice_get_within, get_or_from_slice_get, Point, Sink, Uv, Merge, embedding_of, IsBelow, IsMultipleOf, IsUvBelow, IsUvMultipleOf, rotated, rotated_distance, InRegion, AreTreeSinks, IsTopology, IsParent, Joins, sinks_below, source_of, made_parent, has_parent, joined_by, parent_above, parent_stands, one_parent, distance-rotated, merge_at, merge_here, IsMerged, IsNodeSettled, placed_as, WorkState, IsFit, merge_along, node_of, sink_along, CanSettle, IsSettledBelow, IsStanding, StandFrom, StandsBelow, StaysAbove, standing, StaysMerged, merged_as, reach_in}
 use Rattle.place_down.proofs.RegionBounds.{below_more, point_below_more, holds_node, chosen_near, region_of_joined, reach_of_node, place_of_node}
 
 -- the point of a node that has none yet

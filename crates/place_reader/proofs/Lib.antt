@@ -1,3 +1,4 @@
+mod Vocabulary
 mod NameLemmas
 mod PlacedLemmas
 mod PlaceLemmas

@@ -1,17 +1,8 @@
 -- Names of nodes as the keys of a set.
-use Rattle.std.proofs.Common.{◌≡◌, ℕ, ◌+◌, Bool, true, false, ◌||◌, cond, List, [], ◌∷◌, ◌++◌, map, take, Some, refl, sym, ap, ◌∙◌}
-use Rattle.std.specs.Str.{bytes_eq}
-use Rattle.std.specs.List.{list_any, slice_get}
+use Rattle.place_reader.proofs.Vocabulary.{◌≡◌, ℕ, ◌+◌, Bool, true, false, ◌||◌, cond, List, [], ◌∷◌, ◌++◌, map, take, Some, refl, sym, ap, ◌∙◌, bytes_eq, list_any, slice_get, or-false, map_push, take_more, slice_get_within, get_or_from_slice_get, list_any-append, list_any-map, AreSameNames, is_among}
 use Rattle.std.specs.Cmp.Lexicographic.{nat_list_eq_equiv}
-use Rattle.std.proofs.Math.Bool.{or-false}
-use Rattle.std.proofs.lemmas.List.{map_push, take_more}
-use Rattle.std.proofs.lemmas.Option.{slice_get_within, get_or_from_slice_get}
-use Rattle.std.proofs.lemmas.List.Folds.{list_any-append}
 use Rattle.std.proofs.lemmas.Map.Steps.{list_any_congr}
-use Rattle.cts_base.proofs.ListTests.{list_any-map}
 use Rattle.indexmap.specs.IndexSet.{insert_key}
-use Rattle.place_reader.specs.Names.{AreSameNames}
-use Rattle.place_reader.specs.Placements.{is_among}
 
 -- a name is one of these with one more
 among_push : (names : List (List ℕ)) (name other : List ℕ)

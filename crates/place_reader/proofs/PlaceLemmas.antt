@@ -1,20 +1,6 @@
 -- The places that lines give, and what is kept of them.
-use Rattle.std.proofs.Common.{◌≡◌, ℕ, ◌+◌, Bool, true, false, ◌||◌, cond, IsTrue, List, [], ◌∷◌, ◌++◌, length, Some, None, Result, Ok, Err, refl, sym, ap, ◌∙◌, subst, append_assoc, append-nil}
-use Rattle.std.specs.Map.{lookup}
-use Rattle.std.specs.Option.{option_map, option_or, option_to_list}
-use Rattle.std.specs.Result.{result_ok}
-use Rattle.std.specs.Str.{bytes_eq}
-use Rattle.std.proofs.Math.Bool.{or-false}
-use Rattle.std.proofs.lemmas.List.Folds.{list_any-append}
-use Rattle.std.proofs.lemmas.Slice.Eq.{bytes_eq-Decides}
-use Rattle.cts_base.specs.declared.number.NumberFault.{NumberFault}
-use Rattle.cts_model.specs.declared.place.Point.{Point}
-use Rattle.cts_model.specs.placement.Coordinates.{point_of}
-use Rattle.cts_model.specs.placement.PlaceLines.{Entry, Blank, Header, Stands, entry_after, entry_of_words, has_begun, is_not_blank, place_words}
+use Rattle.place_reader.proofs.Vocabulary.{◌≡◌, ℕ, ◌+◌, Bool, true, false, ◌||◌, cond, IsTrue, List, [], ◌∷◌, ◌++◌, length, Some, None, Result, Ok, Err, refl, sym, ap, ◌∙◌, subst, append_assoc, append-nil, lookup, option_map, option_or, option_to_list, result_ok, bytes_eq, or-false, list_any-append, bytes_eq-Decides, NumberFault, Point, point_of, Entry, Blank, Header, Stands, entry_after, entry_of_words, has_begun, is_not_blank, place_words, entry_fault, fault_of, is_among, node_fault, place_by, place_of, places_after, AreSamePlaces, HasTaken, TakesLine, wanted_place, is_written}
 use Rattle.place_reader.specs.declared.placing.Placing.{Placing}
-use Rattle.place_reader.specs.Placements.{entry_fault, fault_of, is_among, node_fault, place_by, place_of, places_after}
-use Rattle.place_reader.specs.Taken.{AreSamePlaces, HasTaken, TakesLine, wanted_place}
-use Rattle.place_reader.specs.View.{is_written}
 
 -- a look-up in a list and then in another
 lookup-append : {K X : Type 0} (test : K → Bool) (xs ys : List (K × X))

@@ -1,7 +1,5 @@
 -- Nodes with their places as the entries of a map.
-use Rattle.std.proofs.Common.{◌≡◌, ℕ, Bool, true, false, cond, List, [], ◌∷◌, ◌++◌, map, Some, None, refl, ap}
-use Rattle.std.specs.Str.{bytes_eq}
-use Rattle.std.specs.Map.{lookup}
+use Rattle.place_reader.proofs.Vocabulary.{◌≡◌, ℕ, Bool, true, false, cond, List, [], ◌∷◌, ◌++◌, map, Some, None, refl, ap, bytes_eq, lookup}
 use Rattle.indexmap.specs.IndexMap.{insert_entry}
 
 module _ {K X : Type 0} (bytes : K → List ℕ) where
@@ -18,8 +16,7 @@ module _ {K X : Type 0} (bytes : K → List ℕ) where
 
   -- an entry whose key isn't there goes last
   pub insert_entry-named : (entries : List (K × X)) (key : K) (value : X)
-      → lookup (λ other. bytes_eq (bytes key) (bytes other)) entries ≡ None
-      → map named
+      → lookup (λ other. bytes_eq (bytes key) (bytes other)) entries ≡ None → map named
       (insert_entry (λ first second. bytes_eq (bytes first) (bytes second)) entries key value)
       ≡ map named entries ++ (bytes key, value) ∷ []
   insert_entry-named [] key value none = refl
@@ -28,8 +25,7 @@ module _ {K X : Type 0} (bytes : K → List ℕ) where
     where
       at : (b : Bool)
           → cond b (Some entry.1) (lookup (λ other. bytes_eq (bytes key) (bytes other)) entries)
-          ≡ None
-          → (lookup (λ other. bytes_eq (bytes key) (bytes other)) entries ≡ None → map named
+          ≡ None → (lookup (λ other. bytes_eq (bytes key) (bytes other)) entries ≡ None → map named
           (insert_entry (λ first second. bytes_eq (bytes first) (bytes second)) entries key value)
           ≡ map named entries ++ (bytes key, value) ∷ [])
           → map named (cond b ((entry.0, value) ∷ entries)

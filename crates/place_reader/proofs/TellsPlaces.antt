@@ -1,19 +1,6 @@
 -- What a text that is a placement, and one that leaves a register without a place, say.
-use Rattle.std.proofs.Common.{◌≡◌, ℕ, ◌+◌, ◌<◌, Bool, true, false, cond, List, [], ◌∷◌, ◌++◌, map, length, Option, Some, None, Result, Ok, Err, refl, ap, ◌∙◌, arith}
-use Rattle.std.specs.Option.{option_or}
-use Rattle.std.specs.Result.{result_map_both}
-use Rattle.std.proofs.lemmas.List.{length-map}
-use Rattle.cts_base.specs.LineFormats.{first_fault, first_fault_after, unless_faulty}
-use Rattle.cts_base.specs.Lines.{lines_of}
-use Rattle.cts_base.specs.declared.number.NumberFault.{NumberFault}
-use Rattle.cts_model.specs.declared.circuit.Circuit.{Circuit}
+use Rattle.place_reader.proofs.Vocabulary.{◌≡◌, ℕ, ◌+◌, ◌<◌, Bool, true, false, cond, List, [], ◌∷◌, ◌++◌, map, length, Option, Some, None, Result, Ok, Err, refl, ap, ◌∙◌, arith, option_or, result_map_both, length-map, first_fault, first_fault_after, unless_faulty, lines_of, NumberFault, Circuit, Point, point_of, Entry, Blank, Header, Stands, PlaceFault, NoPlace, AcceptsPlacement, RefusesPlacement, entry_fault, fault_of, is_among, node_fault, place_of, places_after, places_in, points_from, register_nodes, wanted_nodes, with_source}
 use Rattle.cts_model.specs.declared.place.Places.{Places}
-use Rattle.cts_model.specs.declared.place.Point.{Point}
-use Rattle.cts_model.specs.placement.Coordinates.{point_of}
-use Rattle.cts_model.specs.placement.PlaceLines.{Entry, Blank, Header, Stands}
-use Rattle.place_reader.specs.declared.fault.PlaceFault.{PlaceFault}
-use Rattle.place_reader.specs.declared.fault.PlaceFault.TheVariants.{NoPlace}
-use Rattle.place_reader.specs.Placements.{AcceptsPlacement, RefusesPlacement, entry_fault, fault_of, is_among, node_fault, place_of, places_after, places_in, points_from, register_nodes, wanted_nodes, with_source}
 
 -- the lines give the places of a placement
 pub record GivePlaces (given : List (List ℕ × Point)) (circuit : Circuit) (source host : List ℕ)
@@ -129,8 +116,7 @@ module _ (text : List ℕ) (circuit : Circuit) (source host : List ℕ) where
       at : (o : Option PlaceFault)
           → unless_faulty o (with_source
           (points_from 0 (map (place_of given) (register_nodes circuit host)))
-          (place_of given source)) ≡ Ok places
-          → GivePlaces given circuit source host places
+          (place_of given source)) ≡ Ok places → GivePlaces given circuit source host places
       at (Some fault) told = cc
       at None told = by _ _ refl refl told
 
@@ -146,8 +132,7 @@ module _ (text : List ℕ) (circuit : Circuit) (source host : List ℕ) where
           → first_fault (fault_of (is_among (wanted_nodes circuit source host))) text ≡ o
           → unless_faulty o (with_source
           (points_from 0 (map (place_of given) (register_nodes circuit host)))
-          (place_of given source)) ≡ Err (NoPlace register)
-          → register < length circuit.registers
+          (place_of given source)) ≡ Err (NoPlace register) → register < length circuit.registers
       at (Some fault) known told =
           let same : fault ≡ NoPlace register = cc told in
           absurd (not_of_lines register _ [] (lines_of text) (known ∙ ap Some same))

@@ -1,22 +1,6 @@
 -- What the places that are kept say of the whole text.
-use Rattle.std.proofs.Common.{◌≡◌, ℕ, ◌+◌, ◌≤◌, true, ◌||◌, IsTrue, List, [], ◌∷◌, ◌++◌, map, drop, length, Option, Some, None, Result, Ok, Err, refl, sym, ap, ◌∙◌, append_assoc, append-nil, arith, suc}
-use Rattle.std.specs.List.{slice_get}
-use Rattle.std.specs.Result.{result_map_both}
-use Rattle.std.specs.Str.{bytes_eq}
-use Rattle.std.proofs.Math.Bool.{or-true}
+use Rattle.place_reader.proofs.Vocabulary.{◌≡◌, ℕ, ◌+◌, ◌≤◌, true, ◌||◌, IsTrue, List, [], ◌∷◌, ◌++◌, map, drop, length, Option, Some, None, Result, Ok, Err, refl, sym, ap, ◌∙◌, append_assoc, append-nil, arith, suc, slice_get, result_map_both, bytes_eq, or-true, drop_all, slice_get_within, get_or_from_slice_get, bytes_eq-Decides, first_fault, lines_of, Circuit, Point, PlaceFault, NoPlace, AreSameNames, fault_of, is_among, place_of, places_after, places_in, points_from, register_nodes, wanted_nodes, with_source, AreSamePlaces}
 use Rattle.std.proofs.Math.Seq.{drop-cons}
-use Rattle.std.proofs.lemmas.List.{drop_all}
-use Rattle.std.proofs.lemmas.Option.{slice_get_within, get_or_from_slice_get}
-use Rattle.std.proofs.lemmas.Slice.Eq.{bytes_eq-Decides}
-use Rattle.cts_base.specs.LineFormats.{first_fault}
-use Rattle.cts_base.specs.Lines.{lines_of}
-use Rattle.cts_model.specs.declared.circuit.Circuit.{Circuit}
-use Rattle.cts_model.specs.declared.place.Point.{Point}
-use Rattle.place_reader.specs.declared.fault.PlaceFault.{PlaceFault}
-use Rattle.place_reader.specs.declared.fault.PlaceFault.TheVariants.{NoPlace}
-use Rattle.place_reader.specs.Names.{AreSameNames}
-use Rattle.place_reader.specs.Placements.{fault_of, is_among, place_of, places_after, places_in, points_from, register_nodes, wanted_nodes, with_source}
-use Rattle.place_reader.specs.Taken.{AreSamePlaces}
 
 -- ---- registers, one after the other
 

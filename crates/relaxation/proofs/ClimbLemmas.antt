@@ -1,11 +1,5 @@
 -- Climbs up the parents.
-use Rattle.std.proofs.Common.{◌≡◌, ◌<◌, ◌+◌, ◌∙◌, ℕ, List, [], ◌∷◌, ◌++◌, length, get_or, Some, None, sym, subst, ap, refl, arith}
-use Rattle.std.proofs.lemmas.List.{length_push}
-use Rattle.std.proofs.lemmas.Option.{same_Some, none-some, slice_get_read}
-use Rattle.std.specs.List.{slice_get}
-use Rattle.std.specs.Option.{option_and_then}
-use Rattle.cts_model.specs.declared.constraint.Constraint.{Constraint}
-use Rattle.relaxation.specs.Parents.{parent_of, Climbs}
+use Rattle.relaxation.proofs.Vocabulary.{◌≡◌, ◌<◌, ◌+◌, ◌∙◌, ℕ, List, [], ◌∷◌, ◌++◌, length, get_or, Some, None, sym, subst, ap, refl, arith, length_push, same_Some, none-some, slice_get_read, slice_get, option_and_then, Constraint, parent_of, Climbs}
 use Rattle.relaxation.proofs.Climbs.{climbs_push}
 
 -- the parent of a register whose place is read

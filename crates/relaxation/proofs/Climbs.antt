@@ -1,24 +1,13 @@
 -- Climbs from register to register by their parents: they go one way only, and one of as many steps
 -- as there are registers ends on a ring.
-use Rattle.std.proofs.Common.{ℕ, suc, ℤ, pos, ◌+ℤ◌, ◌*ℤ◌, ◌≤ℤ◌, ◌<ℤ◌, ◌≡◌, ◌≢◌, ◌<◌, ◌≤◌, List, [], ◌∷◌, ◌++◌, length, map, Option, Some, None, refl, sym, ◌∙◌, ap, subst, arith, All, AllPairs, ⊎_elim, ◌⊎◌, inl, inr, eqb, true, Contains}
-use Rattle.std.proofs.lemmas.Bool.{cases_eq, eqb-true}
+use Rattle.relaxation.proofs.Vocabulary.{ℕ, suc, ℤ, pos, ◌+ℤ◌, ◌*ℤ◌, ◌≤ℤ◌, ◌<ℤ◌, ◌≡◌, ◌≢◌, ◌<◌, ◌≤◌, List, [], ◌∷◌, ◌++◌, length, map, Option, Some, None, refl, sym, ◌∙◌, ap, subst, arith, All, AllPairs, ⊎_elim, ◌⊎◌, inl, inr, eqb, true, Contains, cases_eq, eqb-true, ints, slice_get_within, get_or_from_slice_get, length-append, length-map, get_or_default, list_any, option_and_then, AreSmallConstraints, IsSmallConstraint, Constraint, Gains, AdmitsGains, SatisfiesGains, gain_of, total_gain, AreParents, Climbs, EndsClimb, HaveOwnHeads, parent_of}
 use Rattle.std.proofs.lemmas.Bool.Decides.{Decides-eqb}
-use Rattle.std.proofs.lemmas.Int.{ints}
-use Rattle.std.proofs.lemmas.Option.{slice_get_within, get_or_from_slice_get}
-use Rattle.std.proofs.lemmas.List.{length-append, length-map, get_or_default}
 use Rattle.std.proofs.lemmas.List.Elements.{All-nil, All-cons, All-contains}
 use Rattle.std.proofs.lemmas.List.Kept.{AllPairs-cons}
 use Rattle.std.proofs.lemmas.List.Folds.{Any-from_list_any}
 use Rattle.std.proofs.lemmas.Map.Made.{IsDistinct-from_AllPairs}
 use Rattle.std.proofs.lemmas.Map.Steps.{length-le_from_distinct_below}
 use Rattle.std.specs.Prelude.{slice_get}
-use Rattle.std.specs.List.{list_any}
-use Rattle.std.specs.Option.{option_and_then}
-use Rattle.cts_model.specs.timing.Constraints.{AreSmallConstraints, IsSmallConstraint}
-use Rattle.cts_model.specs.declared.constraint.Constraint.{Constraint}
-use Rattle.relaxation.specs.declared.gains.Gains.{Gains}
-use Rattle.relaxation.specs.Gains.{AdmitsGains, SatisfiesGains, gain_of, total_gain}
-use Rattle.relaxation.specs.Parents.{AreParents, Climbs, EndsClimb, HaveOwnHeads, parent_of}
 
 -- a parent stands where it is said to stand
 pub parent_place : (constraints : List Constraint) (parents : List ℕ) (register : ℕ)
@@ -105,8 +94,7 @@ module _ (constraints : List Constraint) (parents : List ℕ) where
 
   -- a climb ends on a ring, or comes by no register twice
   ring_or_once : (from : ℕ) (above : List Constraint) (to : ℕ) → Climbs constraints parents from
-      above to
-      → ((ring : List Constraint) × (0 < length ring) × (length ring ≤ length above)
+      above to → ((ring : List Constraint) × (0 < length ring) × (length ring ≤ length above)
       × Climbs constraints parents to ring to)
       ⊎ AllPairs (λ first second. first ≢ second) (from ∷ tails above)
   ring_or_once from [] to climb =
@@ -124,8 +112,7 @@ module _ (constraints : List Constraint) (parents : List ℕ) where
     where
       closed : (prefix back : List Constraint) → length prefix ≤ length above
           → Climbs constraints parents step.tail prefix from → Climbs constraints parents from back
-          to
-          → (ring : List Constraint) × (0 < length ring) × (length ring ≤ suc (length above))
+          to → (ring : List Constraint) × (0 < length ring) × (length ring ≤ suc (length above))
           × Climbs constraints parents to ring to
       closed prefix back short round rest =
           let moved = moved_ring from (step ∷ prefix) back to (omega arith) (reads, round) rest in
@@ -243,8 +230,7 @@ IsDirect to from (step ∷ above) = (from ≢ to) × IsDirect to step.tail above
 module _ (constraints : List Constraint) (parents : List ℕ) where
   -- a climb up to where it first comes to its end
   pub direct_climb : (from : ℕ) (above : List Constraint) (to : ℕ) → Climbs constraints parents
-      from above to
-      → (direct : List Constraint) × Climbs constraints parents from direct to
+      from above to → (direct : List Constraint) × Climbs constraints parents from direct to
       × IsDirect to from direct × (length direct ≤ length above)
   direct_climb from [] to climb = ([], climb, tt, omega arith)
   direct_climb from (step ∷ above) to (reads, climb) = ⊎_elim
@@ -273,8 +259,7 @@ module _ (constraints : List Constraint) (parents : List ℕ) where
   pub not_passed : (to from : ℕ) (above : List Constraint)
       → Climbs constraints parents from above to → IsDirect to from above
       → (later : ℕ) (rest : List Constraint) → Climbs constraints parents later rest to
-      → IsDirect to later rest → length rest ≤ length above
-      → All (λ step. from ≢ step.tail) rest
+      → IsDirect to later rest → length rest ≤ length above → All (λ step. from ≢ step.tail) rest
   not_passed to from above climb direct later [] up ahead short =
       All-nil (λ step. from ≢ step.tail)
   not_passed to from above climb direct later (step ∷ rest) (reads, up) ahead short =

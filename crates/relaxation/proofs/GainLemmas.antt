@@ -1,13 +1,6 @@
 -- How large gains are, and that the code's numbers are the same.
-use Rattle.std.proofs.Common.{◌≡◌, ◌≤◌, ◌+◌, ◌*◌, ◌^◌, ◌∙◌, Bool, true, false, if◌then◌else◌, ℕ, ℤ, pos, negsuc, ◌-ℤ◌, ◌*ℤ◌, neg_ℤ, ◌≤ℤ◌, FitsSigned, sym, subst, ap, refl, arith}
-use Rattle.std.proofs.lemmas.Int.{ints, to_z-of_z, unsigned_abs-mul, fits_signed_mul}
+use Rattle.relaxation.proofs.Vocabulary.{◌≡◌, ◌≤◌, ◌+◌, ◌*◌, ◌^◌, ◌∙◌, Bool, true, false, if◌then◌else◌, ℕ, ℤ, pos, negsuc, ◌-ℤ◌, ◌*ℤ◌, neg_ℤ, ◌≤ℤ◌, FitsSigned, sym, subst, ap, refl, arith, ints, to_z-of_z, unsigned_abs-mul, fits_signed_mul, w128, unsigned_abs, Constraint, IsBelow, Gains, gain_of}
 use Rattle.std.proofs.lemmas.Nat.{mul-le}
-use Rattle.std.specs.Int.{w128}
-use Rattle.std.specs.Prelude.{unsigned_abs}
-use Rattle.cts_model.specs.declared.constraint.Constraint.{Constraint}
-use Rattle.cts_model.specs.placement.Points.{IsBelow}
-use Rattle.relaxation.specs.declared.gains.Gains.{Gains}
-use Rattle.relaxation.specs.Gains.{gain_of}
 use mir.Val.{to_z, of_z}
 
 -- a number as the code keeps it

@@ -1,3 +1,4 @@
+mod Vocabulary
 pub mod GainLemmas
 pub mod RelaxLemmas
 mod ParentLemmas

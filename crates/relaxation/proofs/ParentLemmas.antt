@@ -1,16 +1,5 @@
 -- What the parents say after one register is raised, and that no cycle of parents loses.
-use Rattle.std.proofs.Common.{◌≡◌, ◌≢◌, ◌<◌, ◌∙◌, ℕ, zero, suc, ℤ, pos, ◌+ℤ◌, ◌≤ℤ◌, ◌<ℤ◌, List, [], ◌∷◌, length, set, Some, None, ◌⊎◌, inl, inr, sym, subst, ap, refl, arith}
-use Rattle.std.specs.List.{slice_get}
-use Rattle.std.specs.Option.{option_and_then}
-use Rattle.std.proofs.lemmas.Bool.{cases_eq}
-use Rattle.std.proofs.lemmas.List.{get_or-set_same, get_or-set_other, length-set}
-use Rattle.std.proofs.lemmas.Option.{slice_get-get_or, same_Some, none-some}
-use Rattle.std.proofs.lemmas.Int.{ints}
-use Rattle.cts_model.specs.declared.constraint.Constraint.{Constraint}
-use Rattle.relaxation.specs.declared.gains.Gains.{Gains}
-use Rattle.relaxation.specs.Gains.{gain_of, total_gain}
-use Rattle.relaxation.specs.Parents.{parent_of, Climbs, value_of, AreParents}
-use Rattle.relaxation.specs.Relaxing.{offer_of, GivesMore}
+use Rattle.relaxation.proofs.Vocabulary.{◌≡◌, ◌≢◌, ◌<◌, ◌∙◌, ℕ, zero, suc, ℤ, pos, ◌+ℤ◌, ◌≤ℤ◌, ◌<ℤ◌, List, [], ◌∷◌, length, set, Some, None, ◌⊎◌, inl, inr, sym, subst, ap, refl, arith, slice_get, option_and_then, cases_eq, get_or-set_same, get_or-set_other, length-set, slice_get-get_or, same_Some, none-some, ints, Constraint, Gains, gain_of, total_gain, parent_of, Climbs, value_of, AreParents, offer_of, GivesMore}
 
 -- one register raised: it has what the constraint gives it, which is more than it had, and all else
 -- stays
@@ -180,8 +169,7 @@ module _ {constraints : List Constraint} {gains : Gains} {constraint : Constrain
       where
         -- a parent leads to its register
         heads : (register : ℕ) (parent : Constraint)
-            → parent_of constraints later_parents register ≡ Some parent
-            → parent.head ≡ register
+            → parent_of constraints later_parents register ≡ Some parent → parent.head ≡ register
         heads register parent here = elim (cases_eq register constraint.head) [
           | inl same ↦ ap (λ (c : Constraint). c.head)
               (sym (is_constraint parent

@@ -1,14 +1,5 @@
 -- Values that are brought to another scale, one after the other, and parents that are none.
-use Rattle.std.proofs.Common.{◌≡◌, ◌<◌, ◌≤◌, ◌+◌, ◌^◌, ◌∙◌, ℕ, ℤ, List, length, get_or, set, replicate, None, ◌⊎◌, inl, inr, sym, subst, ap, arith}
-use Rattle.std.specs.List.{slice_get}
-use Rattle.std.specs.Option.{option_and_then}
-use Rattle.std.proofs.lemmas.Bool.{cases_eq, cases_lt}
-use Rattle.std.proofs.lemmas.List.{get_or-set_same, get_or-set_other, get_or-replicate, length-set, length-replicate}
-use Rattle.std.proofs.lemmas.Option.{slice_get-get_or, slice_get_past}
-use Rattle.cts_model.specs.declared.constraint.Constraint.{Constraint}
-use Rattle.cts_model.specs.placement.Points.{IsBelow}
-use Rattle.relaxation.specs.declared.relaxation.Relaxation.{Relaxation}
-use Rattle.relaxation.specs.Parents.{parent_of}
+use Rattle.relaxation.proofs.Vocabulary.{◌≡◌, ◌<◌, ◌≤◌, ◌+◌, ◌^◌, ◌∙◌, ℕ, ℤ, List, length, get_or, set, replicate, None, ◌⊎◌, inl, inr, sym, subst, ap, arith, slice_get, option_and_then, cases_eq, cases_lt, get_or-set_same, get_or-set_other, get_or-replicate, length-set, length-replicate, slice_get-get_or, slice_get_past, Constraint, IsBelow, Relaxation, parent_of}
 
 -- so many values are small, and the parents stay
 pub record IsPrepared (count : ℕ) (begun now : Relaxation) : Type 0 where

@@ -1,17 +1,5 @@
 -- What looking at one constraint makes of the values and the parents.
-use Rattle.std.proofs.Common.{◌≡◌, ◌<◌, ◌^◌, ◌∙◌, ℕ, ℤ, pos, ◌+ℤ◌, ◌≤ℤ◌, ◌<ℤ◌, true, false, List, length, get_or, All, Some, None, IfSome, sym, subst, ap, FitsSigned, arith}
-use Rattle.std.specs.List.{slice_get}
-use Rattle.std.specs.Int.{w128}
-use Rattle.std.proofs.lemmas.List.{get_or_read}
-use Rattle.std.proofs.lemmas.Int.{ints}
-use Rattle.cts_model.specs.declared.constraint.Constraint.{Constraint}
-use Rattle.cts_model.specs.timing.Constraints.{AreSmallConstraints}
-use Rattle.cts_model.specs.placement.Points.{IsBelow}
-use Rattle.relaxation.specs.declared.gains.Gains.{Gains}
-use Rattle.relaxation.specs.declared.relaxation.Relaxation.{Relaxation}
-use Rattle.relaxation.specs.Gains.{gain_of}
-use Rattle.relaxation.specs.Parents.{value_of}
-use Rattle.relaxation.specs.Relaxing.{offer_of, GivesMore, IsLeft, IsRaised, IsRelaxed}
+use Rattle.relaxation.proofs.Vocabulary.{◌≡◌, ◌<◌, ◌^◌, ◌∙◌, ℕ, ℤ, pos, ◌+ℤ◌, ◌≤ℤ◌, ◌<ℤ◌, true, false, List, length, get_or, All, Some, None, IfSome, sym, subst, ap, FitsSigned, arith, slice_get, w128, get_or_read, ints, Constraint, AreSmallConstraints, IsBelow, Gains, Relaxation, gain_of, value_of, offer_of, GivesMore, IsLeft, IsRaised, IsRelaxed}
 use Rattle.relaxation.proofs.GainLemmas.{kept}
 use lib.Signed.{le_z}
 

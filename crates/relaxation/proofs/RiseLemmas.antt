@@ -1,18 +1,6 @@
 -- How far raises take values: one raise, and raises after raises.
-use Rattle.std.proofs.Common.{◌≡◌, ◌<◌, ◌≤◌, ◌+◌, ◌*◌, ◌^◌, ◌∙◌, ℕ, ℤ, pos, ◌+ℤ◌, ◌*ℤ◌, neg_ℤ, ◌≤ℤ◌, ◌<ℤ◌, List, length, set, All, Some, inl, inr, sym, subst, refl, arith}
-use Rattle.std.specs.List.{slice_get}
-use Rattle.std.proofs.lemmas.Bool.{cases_eq}
-use Rattle.std.proofs.lemmas.List.{get_or-set_same, get_or-set_other, get_or_default, length-set}
-use Rattle.std.proofs.lemmas.Int.{ints}
+use Rattle.relaxation.proofs.Vocabulary.{◌≡◌, ◌<◌, ◌≤◌, ◌+◌, ◌*◌, ◌^◌, ◌∙◌, ℕ, ℤ, pos, ◌+ℤ◌, ◌*ℤ◌, neg_ℤ, ◌≤ℤ◌, ◌<ℤ◌, List, length, set, All, Some, inl, inr, sym, subst, refl, arith, slice_get, cases_eq, get_or-set_same, get_or-set_other, get_or_default, length-set, ints, Constraint, IsSmallConstraint, IsBelow, Gains, gain_of, value_of, GivesMore, offer_of, AreRaised, AreRaisedBy}
 use Rattle.cts_model.proofs.ScaleLemmas.{scale-add}
-use Rattle.cts_model.specs.declared.constraint.Constraint.{Constraint}
-use Rattle.cts_model.specs.timing.Constraints.{IsSmallConstraint}
-use Rattle.cts_model.specs.placement.Points.{IsBelow}
-use Rattle.relaxation.specs.declared.gains.Gains.{Gains}
-use Rattle.relaxation.specs.Gains.{gain_of}
-use Rattle.relaxation.specs.Parents.{value_of}
-use Rattle.relaxation.specs.Relaxing.{GivesMore, offer_of}
-use Rattle.relaxation.specs.Rises.{AreRaised, AreRaisedBy}
 use Rattle.relaxation.proofs.Climbs.{all_at}
 use Rattle.relaxation.proofs.GainLemmas.{gain_small}
 

@@ -1,20 +1,6 @@
 -- Sweeps by turns: each that changes something raises one more parent above the register that
 -- changed last.
-use Rattle.std.proofs.Common.{◌≡◌, ◌<◌, ◌≤◌, ◌+◌, ◌*◌, ◌^◌, ◌∙◌, ℕ, ℤ, List, length, replicate, All, true, false, Option, Some, None, ◌⊎◌, inl, inr, sym, subst, refl, arith}
-use Rattle.std.specs.Bool.{⊤}
-use Rattle.std.specs.Prelude.{is_some}
-use Rattle.std.proofs.lemmas.Bool.{cases_lt}
-use Rattle.std.proofs.lemmas.List.{length-replicate}
-use Rattle.cts_model.specs.declared.constraint.Constraint.{Constraint}
-use Rattle.cts_model.specs.placement.Points.{IsBelow}
-use Rattle.cts_model.specs.timing.Constraints.{AreSmallConstraints}
-use Rattle.relaxation.specs.declared.gains.Gains.{Gains}
-use Rattle.relaxation.specs.declared.relaxation.Relaxation.{Relaxation}
-use Rattle.relaxation.specs.Gains.{AdmitsGains, SatisfiesGains}
-use Rattle.relaxation.specs.Parents.{ReachesUp, parent_of, value_of}
-use Rattle.relaxation.specs.Relaxing.{IsFarUp}
-use Rattle.relaxation.specs.Rises.{AreRaisedBy}
-use Rattle.relaxation.specs.Sweeps.{IsReady, IsSwept, IsSweep}
+use Rattle.relaxation.proofs.Vocabulary.{◌≡◌, ◌<◌, ◌≤◌, ◌+◌, ◌*◌, ◌^◌, ◌∙◌, ℕ, ℤ, List, length, replicate, All, true, false, Option, Some, None, ◌⊎◌, inl, inr, sym, subst, refl, arith, ⊤, is_some, cases_lt, length-replicate, Constraint, IsBelow, AreSmallConstraints, Gains, Relaxation, AdmitsGains, SatisfiesGains, ReachesUp, parent_of, value_of, IsFarUp, AreRaisedBy, IsReady, IsSwept, IsSweep}
 use Rattle.relaxation.proofs.Climbs.{none_far_up}
 use Rattle.relaxation.proofs.PrepareLemmas.{no_parents}
 use Rattle.relaxation.proofs.RiseLemmas.{AreRaisedBy-none, AreRaisedBy-more, small_raised}

@@ -1,19 +1,5 @@
 -- How far a sweep has come: what one constraint after the other makes of all values.
-use Rattle.std.proofs.Common.{◌≡◌, ◌<◌, ◌≤◌, ◌+◌, ◌^◌, ◌∙◌, ℕ, ℤ, pos, ◌≤ℤ◌, List, length, get_or, set, All, Option, Some, None, MatchOption, IfSome, ◌⊎◌, sym, subst, ap, refl, arith}
-use Rattle.std.specs.List.{slice_get}
-use Rattle.std.specs.Bool.{⊤}
-use Rattle.std.specs.Option.{option_or}
-use Rattle.std.proofs.lemmas.List.{length-set}
-use Rattle.std.proofs.lemmas.Option.{slice_get-get_or, slice_get_within}
-use Rattle.cts_model.specs.declared.constraint.Constraint.{Constraint}
-use Rattle.cts_model.specs.timing.Constraints.{AreSmallConstraints, IsSmallConstraint}
-use Rattle.cts_model.specs.placement.Points.{IsBelow}
-use Rattle.relaxation.specs.declared.gains.Gains.{Gains}
-use Rattle.relaxation.specs.declared.relaxation.Relaxation.{Relaxation}
-use Rattle.relaxation.specs.Parents.{value_of}
-use Rattle.relaxation.specs.Relaxing.{HasEntries, HasRisen, HasRoom, IsLeft, IsRaised, IsRelaxed}
-use Rattle.relaxation.specs.Rises.{AreRaised, AreRaisedBy}
-use Rattle.relaxation.specs.Sweeps.{IsSweeping, IsReady, IsSweep, LeavesParents}
+use Rattle.relaxation.proofs.Vocabulary.{◌≡◌, ◌<◌, ◌≤◌, ◌+◌, ◌^◌, ◌∙◌, ℕ, ℤ, pos, ◌≤ℤ◌, List, length, get_or, set, All, Option, Some, None, MatchOption, IfSome, ◌⊎◌, sym, subst, ap, refl, arith, slice_get, ⊤, option_or, length-set, slice_get-get_or, slice_get_within, Constraint, AreSmallConstraints, IsSmallConstraint, IsBelow, Gains, Relaxation, value_of, HasEntries, HasRisen, HasRoom, IsLeft, IsRaised, IsRelaxed, AreRaised, AreRaisedBy, IsSweeping, IsReady, IsSweep, LeavesParents}
 use Rattle.relaxation.proofs.RelaxLemmas.{nowhere}
 use Rattle.relaxation.proofs.RiseLemmas.{AreRaised-more, AreRaised-none, AreRaisedBy-none, AreRaisedBy-one, AreRaisedBy-more, small_capped, small_raised}
 use Rattle.relaxation.proofs.ParentLemmas.{IsRaise, IsRaise-set}

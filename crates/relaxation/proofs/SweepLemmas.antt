@@ -1,15 +1,5 @@
 -- Sweeps: which constraints may give more, by the sweeps in which registers changed last.
-use Rattle.std.proofs.Common.{◌≡◌, ◌≢◌, ◌<◌, ◌≤◌, ◌+◌, ◌==◌, ◌∙◌, ℕ, suc, zero, ℤ, pos, ◌+ℤ◌, ◌*ℤ◌, ◌≤ℤ◌, ◌<ℤ◌, get_or, cond, List, [], ◌∷◌, length, Option, Some, None, ◌⊎◌, inl, inr, sym, subst, ap, refl, arith}
-use Rattle.std.specs.List.{slice_get}
-use Rattle.std.proofs.lemmas.Bool.{cases_eq, eq-eqb, ne_eqb}
-use Rattle.std.proofs.lemmas.Option.{same_Some, slice_get-get_or}
-use Rattle.std.proofs.lemmas.Int.{ints, by_lt_z}
-use Rattle.cts_model.specs.declared.constraint.Constraint.{Constraint}
-use Rattle.relaxation.specs.declared.gains.Gains.{Gains}
-use Rattle.relaxation.specs.Gains.{SatisfiesGains, gain_of}
-use Rattle.relaxation.specs.Parents.{parent_of, Climbs, value_of}
-use Rattle.relaxation.specs.Relaxing.{offer_of, GivesMore}
-use Rattle.relaxation.specs.Sweeps.{IsSweeping, IsReady, IsSwept}
+use Rattle.relaxation.proofs.Vocabulary.{◌≡◌, ◌≢◌, ◌<◌, ◌≤◌, ◌+◌, ◌==◌, ◌∙◌, ℕ, suc, zero, ℤ, pos, ◌+ℤ◌, ◌*ℤ◌, ◌≤ℤ◌, ◌<ℤ◌, get_or, cond, List, [], ◌∷◌, length, Option, Some, None, ◌⊎◌, inl, inr, sym, subst, ap, refl, arith, slice_get, cases_eq, eq-eqb, ne_eqb, same_Some, slice_get-get_or, ints, by_lt_z, Constraint, Gains, SatisfiesGains, gain_of, parent_of, Climbs, value_of, offer_of, GivesMore, IsSweeping, IsReady, IsSwept}
 use Rattle.relaxation.proofs.ParentLemmas.{IsRaise, AreParents-raise, AreParents-none, rises}
 
 -- a constraint that gives no more doesn't give more

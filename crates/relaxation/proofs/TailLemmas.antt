@@ -1,10 +1,6 @@
 -- One constraint more is linked with those before it that have its tail.
-use Rattle.std.proofs.Common.{◌≡◌, ◌≢◌, ◌<◌, ◌+◌, ◌∙◌, ℕ, List, length, get_or, set, inl, inr, subst, sym, ap, arith}
-use Rattle.std.proofs.lemmas.Bool.{cases_eq}
-use Rattle.std.proofs.lemmas.List.{get_or_default, get_or_read, get_or-set_same, get_or-set_other, length-set}
-use Rattle.cts_model.specs.declared.constraint.Constraint.{Constraint}
+use Rattle.relaxation.proofs.Vocabulary.{◌≡◌, ◌≢◌, ◌<◌, ◌+◌, ◌∙◌, ℕ, List, length, get_or, set, inl, inr, subst, sym, ap, arith, cases_eq, get_or_default, get_or_read, get_or-set_same, get_or-set_other, length-set, Constraint, IsLastBefore, AreByTail}
 use Rattle.relaxation.proofs.RelaxLemmas.{nowhere}
-use Rattle.relaxation.specs.Tails.{IsLastBefore, AreByTail}
 
 -- the tail of the constraint at a place
 abbrev tail_of : List Constraint → ℕ → Constraint → ℕ

@@ -239,8 +239,7 @@ version_read Second are = are
 pub constraint_read : {circuit : Circuit} {words : Words} {launch capture : ℕ} {weight : ℤ}
     (setup : Bool)
     → words ≡ constraint_line (cond setup (codes "setup") (codes "hold")) circuit launch capture
-    weight
-    → launch < length circuit.registers → capture < length circuit.registers
+    weight → launch < length circuit.registers → capture < length circuit.registers
     → IsBelow (10 ^ 12) weight → DenotesConstraint circuit words (record {
       setup = setup;
       tail = cond setup launch capture;

@@ -1,10 +1,5 @@
 -- The code's numbers.
-use Rattle.std.proofs.Common.{◌≡◌, ◌≤◌, ◌*◌, ◌^◌, ◌∙◌, ℕ, ℤ, pos, negsuc, neg_ℤ, ◌*ℤ◌, ◌≤ℤ◌, FitsSigned, ap, arith}
-use Rattle.std.proofs.lemmas.Int.{ints, to_z-of_z, unsigned_abs-mul}
-use Rattle.std.proofs.lemmas.Nat.{mul-le}
-use Rattle.std.specs.Int.{w128}
-use Rattle.std.specs.Prelude.{unsigned_abs}
-use Rattle.cts_model.specs.placement.Points.{IsBelow}
+use Rattle.safety_margin.proofs.Vocabulary.{◌≡◌, ◌≤◌, ◌*◌, ◌^◌, ◌∙◌, ℕ, ℤ, pos, negsuc, neg_ℤ, ◌*ℤ◌, ◌≤ℤ◌, FitsSigned, ap, arith, ints, to_z-of_z, unsigned_abs-mul, mul-le, w128, unsigned_abs, IsBelow}
 use mir.Val.{to_z, of_z}
 
 -- a number as the code keeps it

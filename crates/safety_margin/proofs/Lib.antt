@@ -1,3 +1,4 @@
+mod Vocabulary
 mod CodeLemmas
 mod SparedCycles
 mod RatioLemmas

@@ -1,24 +1,6 @@
 -- What the greatest ratio says of the margin.
-use Rattle.std.proofs.Common.{◌≡◌, ℕ, ◌+◌, ◌*◌, ◌≤◌, ◌^◌, ◌∙◌, ℤ, pos, negsuc, neg_ℤ, ◌+ℤ◌, ◌-ℤ◌, ◌*ℤ◌, ◌≤ℤ◌, ◌<ℤ◌, List, [], ◌∷◌, length, get_or, All, Contains, sym, ap, subst, arith}
-use Rattle.std.specs.Prelude.{nat_abs}
-use Rattle.std.proofs.Math.Nat.{mul-le-mul_left}
-use Rattle.std.proofs.Math.IntN.{pos-*ℤ-pos}
-use Rattle.std.proofs.lemmas.Int.{ints}
-use Rattle.std.proofs.lemmas.Nat.{mul-le}
-use Rattle.cts_base.specs.declared.fraction.Fraction.{Fraction}
-use Rattle.cts_model.specs.declared.constraint.Constraint.{Constraint}
-use Rattle.cts_model.specs.timing.Constraints.{count_of}
-use Rattle.cts_model.specs.timing.Cycles.{total_count, total_weight}
-use Rattle.cts_model.proofs.ScaleLemmas.{size_same}
-use Rattle.critical_cycle.specs.declared.measure.Measure.{Measure}
-use Rattle.critical_cycle.specs.Measures.{SatisfiesRatio, ShowsRatio}
-use Rattle.critical_cycle.specs.RatioSizes.{IsSmallRatio}
-use Rattle.safety_margin.specs.Margins.{ShowsMargin, Spares, SparesNoMore}
-use Rattle.cts_model.specs.timing.Schedules.{IsMarginPeriod}
-use Rattle.safety_margin.specs.RatioMargins.{IsMarginAt, IsMeasureAt}
-use Rattle.safety_margin.specs.Sharing.{CanSpare, IsSmallMargin}
+use Rattle.safety_margin.proofs.Vocabulary.{◌≡◌, ℕ, ◌+◌, ◌*◌, ◌≤◌, ◌^◌, ◌∙◌, ℤ, pos, negsuc, neg_ℤ, ◌+ℤ◌, ◌-ℤ◌, ◌*ℤ◌, ◌≤ℤ◌, ◌<ℤ◌, List, [], ◌∷◌, length, get_or, All, Contains, sym, ap, subst, arith, nat_abs, mul-le-mul_left, pos-*ℤ-pos, ints, mul-le, Fraction, Constraint, count_of, total_count, total_weight, size_same, Measure, SatisfiesRatio, ShowsRatio, IsSmallRatio, ShowsMargin, Spares, SparesNoMore, IsMarginPeriod, IsMarginAt, IsMeasureAt, CanSpare, IsSmallMargin, up, down}
 use Rattle.safety_margin.proofs.SparedCycles.{cycle_among_spares, no_more_margin, no_more_spared, ratio_spares}
-use borrow.Author.Differences.{up, down}
 
 -- a denominator is its size
 pub den_is : (fraction : Fraction) → pos (nat_abs fraction.den) ≡ fraction.den

@@ -1,20 +1,6 @@
 -- The greatest ratio of a list at a period: where the search begins, and what it excludes.
-use Rattle.std.proofs.Common.{◌≡◌, ℕ, suc, ◌+◌, ◌≤◌, ◌^◌, ℤ, pos, negsuc, neg_ℤ, ◌+ℤ◌, ◌-ℤ◌, ◌*ℤ◌, ◌≤ℤ◌, Bool, true, false, if◌then◌else◌, List, [], ◌∷◌, length, get_or, arith}
-use Rattle.std.proofs.Math.Nat.{mul-le-mul_left}
-use Rattle.std.proofs.lemmas.Int.{ints}
-use Rattle.cts_base.specs.declared.fraction.Fraction.{Fraction}
-use Rattle.cts_model.specs.declared.constraint.Constraint.{Constraint}
-use Rattle.cts_model.specs.timing.Constraints.{AreSmallConstraints, count_of}
-use Rattle.cts_model.specs.placement.Points.{IsBelow}
-use Rattle.critical_cycle.specs.declared.measure.Measure.{Measure}
-use Rattle.cts_model.specs.timing.Cycles.{IsCycle, total_count, total_weight}
-use Rattle.critical_cycle.specs.Measures.{CanTry, ForbidsRatios, SatisfiesRatio}
-use Rattle.critical_cycle.specs.RatioSizes.{IsSmallRatio}
-use Rattle.safety_margin.specs.Margins.{HasNoCycle, Spares}
-use Rattle.cts_model.specs.timing.Schedules.{IsMarginPeriod}
-use Rattle.safety_margin.specs.RatioMargins.{IsBelowAll, IsMeasureAt}
+use Rattle.safety_margin.proofs.Vocabulary.{◌≡◌, ℕ, suc, ◌+◌, ◌≤◌, ◌^◌, ℤ, pos, negsuc, neg_ℤ, ◌+ℤ◌, ◌-ℤ◌, ◌*ℤ◌, ◌≤ℤ◌, Bool, true, false, if◌then◌else◌, List, [], ◌∷◌, length, get_or, arith, mul-le-mul_left, ints, Fraction, Constraint, AreSmallConstraints, count_of, IsBelow, Measure, IsCycle, total_count, total_weight, CanTry, ForbidsRatios, SatisfiesRatio, IsSmallRatio, HasNoCycle, Spares, IsMarginPeriod, IsBelowAll, IsMeasureAt, up, down}
 use Rattle.safety_margin.proofs.SparedCycles.{cycle_among_spares}
-use borrow.Author.Differences.{up, down}
 
 -- a ratio below all can be tried
 pub below_can_try : (period first : Fraction) (measure : Measure) → IsMarginPeriod period
@@ -42,8 +28,7 @@ count_once constraint = at constraint.setup
 
 -- at a ratio below all each head is later than its tail
 later : (q p w from to : ℤ) (count : ℕ) → pos 1 ≤ℤ q → pos 0 ≤ℤ p → count ≤ 1
-    → IsBelow (10 ^ 11) w
-    → (from +ℤ (pos 1 *ℤ ((q *ℤ w) -ℤ (p *ℤ pos count))))
+    → IsBelow (10 ^ 11) w → (from +ℤ (pos 1 *ℤ ((q *ℤ w) -ℤ (p *ℤ pos count))))
     ≤ℤ (to +ℤ (neg_ℤ ((q *ℤ pos (10 ^ 11)) +ℤ p) *ℤ pos 1))
     → (from +ℤ ((pos 0 *ℤ w) +ℤ pos 1)) ≤ℤ (to +ℤ (pos 0 *ℤ pos count))
 later (pos q) (pos p) w from to count some from_zero once small met =
@@ -59,8 +44,7 @@ later (pos q) (negsuc p) w from to count some from_zero once small met =
 pub no_cycle : (registers : ℕ) (constraints : List Constraint) (period first : Fraction)
     (measure : Measure) → AreSmallConstraints registers constraints → IsMarginPeriod period
     → IsMeasureAt period measure → IsBelowAll period first
-    → (arrival : ℕ → ℤ) × SatisfiesRatio measure constraints first arrival
-    → HasNoCycle constraints
+    → (arrival : ℕ → ℤ) × SatisfiesRatio measure constraints first arrival → HasNoCycle constraints
 no_cycle registers constraints period first measure small range at below satisfied cycle among
     is_cycle =
     ends (total_weight cycle) (total_count cycle) (length cycle) (some cycle is_cycle)

@@ -1,25 +1,10 @@
 -- The gains of constraints that are to spare a margin: over the least common multiple they are
 -- whole, small, admitted, and say the same as the margin.
-use Rattle.std.proofs.Common.{◌≡◌, ℕ, zero, suc, ◌+◌, ◌*◌, ◌/◌, ◌≤◌, ◌^◌, ◌∙◌, ℤ, pos, negsuc, neg_ℤ, ◌+ℤ◌, ◌-ℤ◌, ◌*ℤ◌, ◌≤ℤ◌, ◌<ℤ◌, Bool, true, false, if◌then◌else◌, List, get_or, sym, ap, subst, arith}
-use Rattle.std.specs.Prelude.{nat_abs}
-use Rattle.std.proofs.Math.Nat.{div-mul-le_self, lt-mul-div-succ, mul-le-mul_left}
-use Rattle.std.proofs.Math.IntN.{pos-*ℤ-pos}
-use Rattle.std.proofs.lemmas.Int.{ints, by_lt_z}
-use Rattle.std.proofs.lemmas.Nat.{mul-le}
-use Rattle.cts_base.specs.declared.fraction.Fraction.{Fraction}
-use Rattle.cts_model.specs.declared.constraint.Constraint.{Constraint}
-use Rattle.cts_model.specs.timing.Constraints.{count_of}
-use Rattle.cts_model.specs.placement.Points.{IsBelow}
-use Rattle.cts_model.specs.timing.Schedules.{IsMarginPeriod, arrival_of}
-use Rattle.cts_model.proofs.ScaleLemmas.{size_same}
+use Rattle.safety_margin.proofs.Vocabulary.{◌≡◌, ℕ, zero, suc, ◌+◌, ◌*◌, ◌/◌, ◌≤◌, ◌^◌, ◌∙◌, ℤ, pos, negsuc, neg_ℤ, ◌+ℤ◌, ◌-ℤ◌, ◌*ℤ◌, ◌≤ℤ◌, ◌<ℤ◌, Bool, true, false, if◌then◌else◌, List, get_or, sym, ap, subst, arith, nat_abs, div-mul-le_self, lt-mul-div-succ, mul-le-mul_left, pos-*ℤ-pos, ints, by_lt_z, mul-le, Fraction, Constraint, count_of, IsBelow, IsMarginPeriod, arrival_of, size_same, IsOver, Spares, AreGainsAt, CanSpare, IsShare, IsSmallMargin, AreLeastSparing, IsLeastMultiple, up, down}
 use Rattle.relaxation.specs.declared.gains.Gains.{Gains}
 use Rattle.relaxation.specs.Gains.{AdmitsGains, SatisfiesGains, gain_of}
 use Rattle.schedule.specs.Gains.{AreLeastArrivalsBy}
-use Rattle.safety_margin.specs.Margins.{IsOver, Spares}
-use Rattle.safety_margin.specs.Sharing.{AreGainsAt, CanSpare, IsShare, IsSmallMargin}
-use Rattle.safety_margin.specs.SparingSchedules.{AreLeastSparing, IsLeastMultiple}
 use Rattle.safety_margin.proofs.MarginLemmas.{den_is, den_some}
-use borrow.Author.Differences.{up, down}
 
 -- a number over a divisor, rounded down
 abbrev floor : ℤ → ℕ → ℤ
@@ -84,8 +69,7 @@ gain_over false q u z p v w =
 
 -- and over equal numbers
 gain_same : (setup : Bool) (q u z : ℕ) (den first second p v w : ℤ) → den ≡ pos q
-    → first ≡ pos u → second ≡ pos z
-    → ((den *ℤ first) *ℤ w)
+    → first ≡ pos u → second ≡ pos z → ((den *ℤ first) *ℤ w)
     -ℤ (if setup then (p *ℤ first) -ℤ (v *ℤ second) else neg_ℤ (v *ℤ second))
     ≡ ((pos (q * u) *ℤ w) +ℤ (v *ℤ pos z)) -ℤ ((p *ℤ pos u) *ℤ pos (if setup then 1 else 0))
 gain_same setup q u z den first second p v w den_is first_is second_is =
@@ -164,8 +148,7 @@ module _ {period value share : Fraction} {gains : Gains}
   -- and those that spare it at a finer scale satisfy the constraints
   satisfies_by : (constraints : List Constraint) (times : ℕ) (other : ℕ → ℤ)
       → Spares constraints (q * u * times) ((period.num *ℤ pos u) *ℤ pos times)
-      ((value.num *ℤ pos z) *ℤ pos times) other
-      → SatisfiesGains constraints gains times other
+      ((value.num *ℤ pos z) *ℤ pos times) other → SatisfiesGains constraints gains times other
   satisfies_by constraints times other spares place default within =
       let it : Constraint = get_or constraints place default in
       subst (λ g. (other it.tail +ℤ (pos times *ℤ g)) ≤ℤ other it.head) (sym (gain_is it))

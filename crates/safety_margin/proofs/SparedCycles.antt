@@ -1,15 +1,7 @@
 -- The sum of constraints that spare a margin round a cycle.
-use Rattle.std.proofs.Common.{◌≡◌, ℕ, suc, ◌+◌, ◌*◌, ◌≤◌, ℤ, pos, neg_ℤ, ◌+ℤ◌, ◌-ℤ◌, ◌*ℤ◌, ◌≤ℤ◌, List, [], ◌∷◌, length, ap, arith}
+use Rattle.safety_margin.proofs.Vocabulary.{◌≡◌, ℕ, suc, ◌+◌, ◌*◌, ◌≤◌, ℤ, pos, neg_ℤ, ◌+ℤ◌, ◌-ℤ◌, ◌*ℤ◌, ◌≤ℤ◌, List, [], ◌∷◌, length, ap, arith, mul-le-mul_left, ints, by_lt_z, All-head, All-tail, All-weaker, All-contains, Constraint, count_of, Leads, IsCycle, total_weight, total_count, Spares, SparesOne, up, down}
 use Rattle.std.specs.List.{All, Contains}
-use Rattle.std.proofs.Math.Nat.{mul-le-mul_left}
-use Rattle.std.proofs.lemmas.Int.{ints, by_lt_z}
-use Rattle.std.proofs.lemmas.List.Elements.{All-head, All-tail, All-weaker, All-contains}
 use Rattle.std.proofs.lemmas.List.Sums.{sum_by-cons}
-use Rattle.cts_model.specs.declared.constraint.Constraint.{Constraint}
-use Rattle.cts_model.specs.timing.Constraints.{count_of}
-use Rattle.cts_model.specs.timing.Cycles.{Leads, IsCycle, total_weight, total_count}
-use Rattle.safety_margin.specs.Margins.{Spares, SparesOne}
-use borrow.Author.Differences.{up, down}
 
 -- what a constraint asks of its tail and its head, and others of its head and of where they lead,
 -- they ask together of its tail and of where they lead

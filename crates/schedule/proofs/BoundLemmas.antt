@@ -1,23 +1,8 @@
 -- The least arrivals are low, since some low ones satisfy the constraints.
-use Rattle.std.proofs.Common.{ℕ, zero, suc, ◌≡◌, ◌<◌, ◌≤◌, ◌+◌, ◌-◌, ◌*◌, ◌^◌, ℤ, pos, negsuc, ◌+ℤ◌, ◌-ℤ◌, ◌*ℤ◌, ◌≤ℤ◌, Bool, true, false, cond, List, All, length, get_or, inl, inr, sym, subst, refl, arith}
-use Rattle.std.specs.Prelude.{nat_abs}
-use Rattle.std.proofs.lemmas.Bool.{cases_eq}
-use Rattle.std.proofs.lemmas.Int.{ints}
-use Rattle.std.proofs.lemmas.List.{get_or_default}
+use Rattle.schedule.proofs.Vocabulary.{ℕ, zero, suc, ◌≡◌, ◌<◌, ◌≤◌, ◌+◌, ◌-◌, ◌*◌, ◌^◌, ℤ, pos, negsuc, ◌+ℤ◌, ◌-ℤ◌, ◌*ℤ◌, ◌≤ℤ◌, Bool, true, false, cond, List, All, length, get_or, inl, inr, sym, subst, refl, arith, nat_abs, cases_eq, ints, get_or_default, Fraction, Constraint, IsBelow, AreSmallConstraints, IsSmallConstraint, arrival_of, AreFromZero, IsSmallPeriod, Gains, SatisfiesGains, gain_of, AreGainsOf, AreLeastBy, AreWithinWeights, CanSchedule, IsRising, gain_small}
 use Rattle.std.proofs.lemmas.Nat.{mul-le}
 use Rattle.std.proofs.Math.Nat.{mul-add, mul-le-mul_left}
 use borrow.Author.Differences.{up, down}
-use Rattle.cts_base.specs.declared.fraction.Fraction.{Fraction}
-use Rattle.cts_model.specs.declared.constraint.Constraint.{Constraint}
-use Rattle.cts_model.specs.placement.Points.{IsBelow}
-use Rattle.cts_model.specs.timing.Constraints.{AreSmallConstraints, IsSmallConstraint}
-use Rattle.cts_model.specs.timing.Schedules.{arrival_of, AreFromZero, IsSmallPeriod}
-use Rattle.relaxation.specs.declared.gains.Gains.{Gains}
-use Rattle.relaxation.specs.Gains.{SatisfiesGains, gain_of}
-use Rattle.schedule.specs.Gains.{AreGainsOf, AreLeastBy}
-use Rattle.schedule.specs.Schedules.{AreWithinWeights, CanSchedule}
-use Rattle.schedule.specs.Rises.{IsRising}
-use Rattle.relaxation.proofs.GainLemmas.{gain_small}
 use Rattle.schedule.proofs.Levels.{lowered, lowered_low, lowered_keeps}
 
 -- the size of a number is at least the number

@@ -1,18 +1,6 @@
 -- What is looked at from each register that is taken.
-use Rattle.std.proofs.Common.{◌≡◌, ◌<◌, ◌≤◌, ◌+◌, ◌∙◌, ℕ, zero, suc, ℤ, pos, negsuc, ◌≤ℤ◌, ◌<ℤ◌, false, List, Contains, length, get_or, inl, inr, subst, sym, refl, arith, true≢false, ap}
-use Rattle.std.proofs.lemmas.Bool.{cases_eq, cases_lt}
-use Rattle.std.proofs.lemmas.Int.{ints}
-use Rattle.std.proofs.lemmas.List.{get_or_default, get_or_read}
+use Rattle.schedule.proofs.Vocabulary.{◌≡◌, ◌<◌, ◌≤◌, ◌+◌, ◌∙◌, ℕ, zero, suc, ℤ, pos, negsuc, ◌≤ℤ◌, ◌<ℤ◌, false, List, Contains, length, get_or, inl, inr, subst, sym, refl, arith, true≢false, ap, cases_eq, cases_lt, ints, get_or_default, get_or_read, Fraction, Constraint, Reach, Tight, arrival_of, IsTight, IsTightLead, depth_of, lead_at, IsLastBefore, IsAdded, IsGiven, IsGrown, IsHanded, IsHandedBy, IsReachKept, IsReached, IsReaching, nowhere}
 use Rattle.std.proofs.lemmas.List.Elements.{Contains-get_or}
-use Rattle.cts_base.specs.declared.fraction.Fraction.{Fraction}
-use Rattle.cts_model.specs.declared.constraint.Constraint.{Constraint}
-use Rattle.schedule.specs.declared.reach.Reach.{Reach}
-use Rattle.cts_model.specs.declared.schedule.Lead.TheVariants.{Tight}
-use Rattle.cts_model.specs.timing.Schedules.{arrival_of}
-use Rattle.cts_model.specs.timing.Leads.{IsTight, IsTightLead, depth_of, lead_at}
-use Rattle.relaxation.specs.Tails.{IsLastBefore}
-use Rattle.schedule.specs.Reaching.{IsAdded, IsGiven, IsGrown, IsHanded, IsHandedBy, IsReachKept, IsReached, IsReaching}
-use Rattle.relaxation.proofs.RelaxLemmas.{nowhere}
 use Rattle.schedule.proofs.ReachLemmas.{IsReachKept-added, IsReaching-added, flag_here}
 
 -- the constraints that lead from the register are looked at, up to the mark's
@@ -120,8 +108,7 @@ module _ {constraints : List Constraint} {period : Fraction} {at : List ℤ}
 
   -- the mark's constraint is looked at
   pub IsHanding-more : {now new : Reach} → IsHanding constraints period at register mark old now
-      → (place : ℕ) → place + 1 ≡ mark → IsGrown constraints period at place now new
-      → (before : ℕ)
+      → (place : ℕ) → place + 1 ≡ mark → IsGrown constraints period at place now new → (before : ℕ)
       → IsLastBefore constraints place (get_or constraints place nowhere).tail before
       → IsHanding constraints period at register before old new
   IsHanding-more {now} {new} handing place place_is grown before last = record {

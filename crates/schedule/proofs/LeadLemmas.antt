@@ -1,16 +1,6 @@
 -- Where tight constraints reach no further, the least arrivals are all reached: else those that
 -- aren't could all be lowered.
-use Rattle.std.proofs.Common.{◌≡◌, ◌<◌, ◌≤◌, ◌*◌, ℕ, zero, suc, ℤ, pos, negsuc, ◌+ℤ◌, ◌-ℤ◌, ◌*ℤ◌, ◌≤ℤ◌, Bool, true, false, cond, List, Contains, length, get_or, subst, sym, refl, arith, true≢false}
-use Rattle.std.specs.Prelude.{nat_abs}
-use Rattle.std.proofs.lemmas.Int.{ints}
-use Rattle.cts_base.specs.declared.fraction.Fraction.{Fraction}
-use Rattle.cts_model.specs.declared.constraint.Constraint.{Constraint}
-use Rattle.cts_model.specs.timing.Constraints.{Satisfies, count_of}
-use Rattle.schedule.specs.declared.reach.Reach.{Reach}
-use Rattle.cts_model.specs.timing.Schedules.{arrival_of, AreFromZero}
-use Rattle.schedule.specs.Schedules.{IsLeastScheduleOf}
-use Rattle.cts_model.specs.timing.Leads.{EachLead, depth_of, lead_at}
-use Rattle.schedule.specs.Reaching.{IsReached, IsWhole}
+use Rattle.schedule.proofs.Vocabulary.{◌≡◌, ◌<◌, ◌≤◌, ◌*◌, ℕ, zero, suc, ℤ, pos, negsuc, ◌+ℤ◌, ◌-ℤ◌, ◌*ℤ◌, ◌≤ℤ◌, Bool, true, false, cond, List, Contains, length, get_or, subst, sym, refl, arith, true≢false, nat_abs, ints, Fraction, Constraint, Satisfies, count_of, Reach, arrival_of, AreFromZero, IsLeastScheduleOf, EachLead, depth_of, lead_at, IsReached, IsWhole}
 use Rattle.schedule.proofs.BoundLemmas.{once_is, size_same}
 
 -- a number from 0 on that is 0 only where the flag is set, lowered where it isn't

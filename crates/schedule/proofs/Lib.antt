@@ -1,3 +1,4 @@
+mod Vocabulary
 mod Levels
 mod BoundLemmas
 mod PeriodLemmas

@@ -1,18 +1,7 @@
 -- Arrivals that satisfy constraints at a period do so by its gains, and the least are the same.
-use Rattle.std.proofs.Common.{◌≡◌, ◌*◌, ◌^◌, ◌∙◌, ℕ, ℤ, pos, ◌+ℤ◌, ◌-ℤ◌, ◌*ℤ◌, ◌≤ℤ◌, Bool, true, false, cond, List, All, length, get_or, refl, sym, subst, ap, arith}
-use Rattle.std.specs.Prelude.{nat_abs}
-use Rattle.std.proofs.lemmas.Int.{ints}
+use Rattle.schedule.proofs.Vocabulary.{◌≡◌, ◌*◌, ◌^◌, ◌∙◌, ℕ, ℤ, pos, ◌+ℤ◌, ◌-ℤ◌, ◌*ℤ◌, ◌≤ℤ◌, Bool, true, false, cond, List, All, length, get_or, refl, sym, subst, ap, arith, nat_abs, ints, Fraction, Constraint, IsBelow, AreSmallConstraints, Satisfies, Gains, AdmitsGains, SatisfiesGains, gain_of, AreGainsOf, AreLeastArrivalsBy, AreWithinWeights, IsAdmittedBy, IsLeastScheduleOf, IsSmallPeriod, arrival_of}
 use Rattle.std.proofs.Math.IntN.{*ℤ_comm}
-use Rattle.cts_base.specs.declared.fraction.Fraction.{Fraction}
-use Rattle.cts_model.specs.declared.constraint.Constraint.{Constraint}
-use Rattle.cts_model.specs.placement.Points.{IsBelow}
-use Rattle.cts_model.specs.timing.Constraints.{AreSmallConstraints, Satisfies}
 use Rattle.cts_model.proofs.ScaleLemmas.{scale-finer, scale-sub}
-use Rattle.relaxation.specs.declared.gains.Gains.{Gains}
-use Rattle.relaxation.specs.Gains.{AdmitsGains, SatisfiesGains, gain_of}
-use Rattle.schedule.specs.Gains.{AreGainsOf, AreLeastArrivalsBy}
-use Rattle.schedule.specs.Schedules.{AreWithinWeights, IsAdmittedBy, IsLeastScheduleOf}
-use Rattle.cts_model.specs.timing.Schedules.{IsSmallPeriod, arrival_of}
 use Rattle.schedule.proofs.BoundLemmas.{AreWithinWeights-least, once_is, size_same, small_within}
 
 -- what is due counts the period once for a setup constraint, and else never

@@ -1,16 +1,8 @@
 -- A register more is reached: what was known of those before it stands.
-use Rattle.std.proofs.Common.{◌≡◌, ◌≢◌, ◌<◌, ◌≤◌, ◌+◌, ◌∙◌, ◌⊎◌, ℕ, ℤ, Bool, true, false, if◌then◌else◌, List, [], ◌∷◌, Contains, length, get_or, inl, inr, subst, sym, ap, arith, true≢false}
-use Rattle.std.proofs.lemmas.Bool.{cases_eq, cases_lt}
-use Rattle.std.proofs.lemmas.List.{get_or-set_same, get_or-set_other, get_or_append_left, length-set, length-append}
+use Rattle.schedule.proofs.Vocabulary.{◌≡◌, ◌≢◌, ◌<◌, ◌≤◌, ◌+◌, ◌∙◌, ◌⊎◌, ℕ, ℤ, Bool, true, false, if◌then◌else◌, List, [], ◌∷◌, Contains, length, get_or, inl, inr, subst, sym, ap, arith, true≢false, cases_eq, cases_lt, get_or-set_same, get_or-set_other, get_or_append_left, length-set, length-append, Fraction, Constraint, Zero, Tight, Reach, IsLead, depth_of, lead_at, IsAdded, IsFromReached, IsReachKept, IsReached, IsReaching, unreached}
 use Rattle.std.proofs.lemmas.List.Sums.{sum_by-set}
 use Rattle.std.proofs.Math.Seq.{get_or-append_seam}
-use Rattle.cts_base.specs.declared.fraction.Fraction.{Fraction}
-use Rattle.cts_model.specs.declared.constraint.Constraint.{Constraint}
 use Rattle.cts_model.specs.declared.schedule.Lead.{Lead}
-use Rattle.cts_model.specs.declared.schedule.Lead.TheVariants.{Zero, Tight}
-use Rattle.schedule.specs.declared.reach.Reach.{Reach}
-use Rattle.cts_model.specs.timing.Leads.{IsLead, depth_of, lead_at}
-use Rattle.schedule.specs.Reaching.{IsAdded, IsFromReached, IsReachKept, IsReached, IsReaching, unreached}
 
 module _ {constraints : List Constraint} {period : Fraction} {at : List ℤ} {looked : ℕ}
     {old new : Reach} {register : ℕ} {lead : Lead}

@@ -1,19 +1,9 @@
 -- Arrivals that rise: raises keep them from 0 on and no later than any that satisfy the
 -- constraints, so where they come to satisfy them they are the least that do.
-use Rattle.std.proofs.Common.{◌≡◌, ◌<◌, ◌≤◌, ◌^◌, ℕ, ℤ, pos, ◌*ℤ◌, ◌≤ℤ◌, List, length, replicate, All, subst, sym, arith}
-use Rattle.std.proofs.lemmas.List.{get_or-replicate, length-replicate}
-use Rattle.std.proofs.lemmas.Int.{ints}
-use Rattle.cts_model.specs.declared.constraint.Constraint.{Constraint}
-use Rattle.cts_model.specs.placement.Points.{IsBelow}
-use Rattle.cts_model.specs.timing.Schedules.{AreFromZero, arrival_of}
-use Rattle.relaxation.specs.declared.gains.Gains.{Gains}
-use Rattle.relaxation.specs.Gains.{SatisfiesGains}
+use Rattle.schedule.proofs.Vocabulary.{◌≡◌, ◌<◌, ◌≤◌, ◌^◌, ℕ, ℤ, pos, ◌*ℤ◌, ◌≤ℤ◌, List, length, replicate, All, subst, sym, arith, get_or-replicate, length-replicate, ints, Constraint, IsBelow, AreFromZero, arrival_of, Gains, SatisfiesGains, AreLeastArrivalsBy, CanRaise, CanSchedule}
 use Rattle.relaxation.specs.Parents.{value_of}
 use Rattle.relaxation.specs.Rises.{AreRaised}
 use Rattle.relaxation.proofs.RiseLemmas.{small_wider}
-use Rattle.schedule.specs.Gains.{AreLeastArrivalsBy}
-use Rattle.schedule.specs.Rises.{CanRaise}
-use Rattle.schedule.specs.Schedules.{CanSchedule}
 use Rattle.schedule.proofs.BoundLemmas.{small_rising}
 
 -- arrivals that can be raised are small

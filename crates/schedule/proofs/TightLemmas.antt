@@ -1,9 +1,5 @@
 -- What the code's test of a tight constraint says.
-use Rattle.std.proofs.Common.{◌≡◌, ◌↔◌, ◌^◌, ◌∙◌, ℤ, pos, ◌-ℤ◌, ◌*ℤ◌, ◌≤ℤ◌, Bool, true, false, cond, nat_eq, FitsSigned, IsTrue, sym, arith}
-use Rattle.std.proofs.lemmas.Int.{ints}
-use Rattle.std.specs.Int.{w128}
-use Rattle.cts_model.specs.placement.Points.{IsBelow}
-use Rattle.relaxation.proofs.GainLemmas.{kept}
+use Rattle.schedule.proofs.Vocabulary.{◌≡◌, ◌↔◌, ◌^◌, ◌∙◌, ℤ, pos, ◌-ℤ◌, ◌*ℤ◌, ◌≤ℤ◌, Bool, true, false, cond, nat_eq, FitsSigned, IsTrue, sym, arith, ints, w128, IsBelow, kept}
 use mir.Val.{of_z}
 
 -- the code compares the difference with the gain
@@ -12,15 +8,13 @@ tests to from gain = nat_eq (of_z w128 (kept to -ℤ kept from)) (of_z w128 gain
 
 -- a test that passes makes them equal
 passes_is : (to from gain : ℤ) → pos 0 ≤ℤ to → pos 0 ≤ℤ from → FitsSigned w128 to
-    → FitsSigned w128 from → IsBelow (2 ^ 80) gain → tests to from gain ≡ true
-    → to -ℤ from ≡ gain
+    → FitsSigned w128 from → IsBelow (2 ^ 80) gain → tests to from gain ≡ true → to -ℤ from ≡ gain
 passes_is to from gain to_from_zero from_from_zero to_fits from_fits small passes =
     grind (arith, ints)
 
 -- what is equal passes
 is_passes : (to from gain : ℤ) → pos 0 ≤ℤ to → pos 0 ≤ℤ from → FitsSigned w128 to
-    → FitsSigned w128 from → IsBelow (2 ^ 80) gain → to -ℤ from ≡ gain
-    → tests to from gain ≡ true
+    → FitsSigned w128 from → IsBelow (2 ^ 80) gain → to -ℤ from ≡ gain → tests to from gain ≡ true
 is_passes to from gain to_from_zero from_from_zero to_fits from_fits small same =
     grind (arith, ints)
 
@@ -33,8 +27,7 @@ gain_due false asked num = omega (arith, ints)
 -- so the code's test is the definition
 pub tight_read : (to from gain asked num : ℤ) (setup : Bool) → pos 0 ≤ℤ to → pos 0 ≤ℤ from
     → FitsSigned w128 to → FitsSigned w128 from → IsBelow (2 ^ 80) gain
-    → gain ≡ asked -ℤ cond setup num (pos 0)
-    → IsTrue (tests to from gain)
+    → gain ≡ asked -ℤ cond setup num (pos 0) → IsTrue (tests to from gain)
     ↔ (to -ℤ from ≡ asked -ℤ (num *ℤ pos (cond setup 1 0)))
 tight_read to from gain asked num setup to_from_zero from_from_zero to_fits from_fits small is = (
   λ passes. passes_is to from gain to_from_zero from_from_zero to_fits from_fits small passes

@@ -1,24 +1,13 @@
 -- Clusters of sinks that trees are made over: how large their numbers are, and how two are joined.
-use Rattle.std.proofs.Common.{◌≡◌, ◌↔◌, ◌<ℤ◌, Option, Some, None, ◌*◌, ◌^◌, List, [], ◌∷◌, ◌++◌, ℤ, pos, ◌+ℤ◌, ◌-ℤ◌, ◌≤ℤ◌, refl, sym, subst, arith}
+use Rattle.tilted_rect.proofs.Vocabulary.{◌≡◌, ◌↔◌, ◌<ℤ◌, Option, Some, None, ◌*◌, ◌^◌, List, [], ◌∷◌, ◌++◌, ℤ, pos, ◌+ℤ◌, ◌-ℤ◌, ◌≤ℤ◌, refl, sym, subst, arith, Contains, All, ints, clamps, to_z-of_z, All-contains, All-append, All-nil, All-cons, int_max, Sink, IsBelow, IsMultipleOf, IsReach, IsUnion, bound, between, HasSides, CanGrowBy, gap_of, Rect}
 use Rattle.std.specs.Option.{IsSome, IsNone, IfSome}
-use Rattle.std.specs.List.{Contains, All}
-use Rattle.std.proofs.lemmas.Int.{ints, clamps, to_z-of_z}
-use Rattle.std.proofs.lemmas.List.Elements.{All-contains, All-append, All-nil, All-cons}
 use Rattle.std.proofs.Math.Logic.{∥∥₁_elim, ∥∥₁_map, ∥∥₁_prop}
 use Rattle.std.proofs.Props.{props}
-use Rattle.std.specs.Int.{int_max}
-use Rattle.cts_model.specs.declared.place.Sink.{Sink}
-use Rattle.cts_model.specs.placement.Points.{IsBelow, IsMultipleOf}
-use Rattle.cts_model.specs.tree.Regions.{IsReach, IsUnion}
 use Rattle.cts_model.specs.tree.Sinks.{IsTreeSink}
 use Rattle.tilted_rect.specs.Clusters.{IsReachAndRegion, HasTreeSinks}
 use Rattle.tilted_rect.specs.ClusterSets.{IsCluster}
-use Rattle.tilted_rect.specs.Corners.{bound}
-use Rattle.tilted_rect.specs.Intervals.{between}
 use Rattle.tilted_rect.specs.Extremes.{Extremes, IsExtremes, joined as joined_extremes, spread, IsGrown, IsMeeting, AreMultiplesOf, joined_twice}
-use Rattle.tilted_rect.specs.Rects.{HasSides, CanGrowBy, gap_of}
 use Rattle.tilted_rect.specs.declared.cluster.Cluster.{Cluster}
-use Rattle.tilted_rect.specs.declared.rect.Rect.{Rect}
 use Rattle.tilted_rect.proofs.CodeNumbers.{kept, difference_read, sum_read}
 use Rattle.tilted_rect.proofs.ExtremeLemmas.{append_is_union, extremes_union}
 use Rattle.tilted_rect.proofs.MergeLemmas.{sink_reach, sink_region, grown_regions_meet_in_region, grown_regions_meet, union_reach}

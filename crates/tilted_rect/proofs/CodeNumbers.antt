@@ -1,10 +1,5 @@
 -- What calls on the code's numbers answer, in whole numbers.
-use Rattle.std.proofs.Common.{◌≡◌, ℤ, ◌+ℤ◌, ◌-ℤ◌, FitsSigned, ap, ◌∙◌, arith}
-use Rattle.std.proofs.lemmas.Int.{ints, to_z-of_z}
-use Rattle.std.specs.Int.{w128}
-use Rattle.cts_model.specs.placement.Points.{IsBelow}
-use Rattle.tilted_rect.specs.Corners.{bound}
-use Rattle.tilted_rect.specs.Intervals.{between, clamped}
+use Rattle.tilted_rect.proofs.Vocabulary.{◌≡◌, ℤ, ◌+ℤ◌, ◌-ℤ◌, FitsSigned, ap, ◌∙◌, arith, ints, to_z-of_z, w128, IsBelow, bound, between, clamped}
 use mir.Val.{to_z, of_z}
 
 -- a number as the code keeps it

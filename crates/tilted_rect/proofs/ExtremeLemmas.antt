@@ -1,12 +1,5 @@
 -- The greatest and the least number over a set of sinks, and the four extremes.
-use Rattle.std.proofs.Common.{◌≡◌, List, [], ◌∷◌, ◌++◌, ℤ, ◌≤ℤ◌, ◌<ℤ◌, inl, inr, refl, subst, ◌∙◌, arith}
-use Rattle.std.specs.List.{Contains}
-use Rattle.std.proofs.lemmas.Int.{ints, clamps, by_lt_z}
-use Rattle.std.proofs.lemmas.List.Elements.{Contains-append_left, Contains-append_right, Contains-append_cases}
-use Rattle.std.specs.Int.{int_max, int_min}
-use Rattle.cts_model.specs.declared.place.Sink.{Sink}
-use Rattle.cts_model.specs.tree.Regions.{IsUnion}
-use Rattle.tilted_rect.specs.Extremes.{IsGreatest, IsLeastOf, u_above, u_below, v_above, v_below, Extremes, IsExtremes, joined}
+use Rattle.tilted_rect.proofs.Vocabulary.{◌≡◌, List, [], ◌∷◌, ◌++◌, ℤ, ◌≤ℤ◌, ◌<ℤ◌, inl, inr, refl, subst, ◌∙◌, arith, Contains, ints, clamps, by_lt_z, Contains-append_left, Contains-append_right, Contains-append_cases, int_max, int_min, Sink, IsUnion, IsGreatest, IsLeastOf, u_above, u_below, v_above, v_below, Extremes, IsExtremes, joined}
 
 -- ---- sets of sinks
 

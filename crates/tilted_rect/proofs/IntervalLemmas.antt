@@ -1,12 +1,7 @@
 -- Intervals on one axis, and numbers taken over a scale: the smaller of two, and what is clamped
 -- into an interval or between two.
-use Rattle.std.proofs.Common.{◌≡◌, ℕ, ℤ, pos, ◌+ℤ◌, ◌-ℤ◌, ◌*ℤ◌, ◌≤ℤ◌, ◌<ℤ◌, ap, ◌∙◌, arith}
-use Rattle.std.proofs.lemmas.Int.{ints, clamps, by_lt_z}
+use Rattle.tilted_rect.proofs.Vocabulary.{◌≡◌, ℕ, ℤ, pos, ◌+ℤ◌, ◌-ℤ◌, ◌*ℤ◌, ◌≤ℤ◌, ◌<ℤ◌, ap, ◌∙◌, arith, ints, clamps, by_lt_z, int_max, int_min, apart, scale_le, scale-max, scale-sub, between, clamped}
 use Rattle.std.proofs.Math.IntN.{*ℤ-zero}
-use Rattle.std.specs.Int.{int_max, int_min}
-use Rattle.cts_model.specs.placement.Points.{apart}
-use Rattle.cts_model.proofs.ScaleLemmas.{scale_le, scale-max, scale-sub}
-use Rattle.tilted_rect.specs.Intervals.{between, clamped}
 
 -- a number clamped into an interval is in it
 pub clamped_ge : (lo hi to : ℤ) → lo ≤ℤ clamped lo hi to

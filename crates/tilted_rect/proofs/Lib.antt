@@ -1,3 +1,4 @@
+mod Vocabulary
 pub mod ClusterLemmas
 pub mod CodeNumbers
 pub mod ExtremeLemmas

@@ -1,15 +1,5 @@
 -- Two sets of sinks merged, by the rectangles of their regions alone.
-use Rattle.std.proofs.Common.{◌≡◌, List, [], ◌∷◌, ℤ, pos, ◌+ℤ◌, ◌-ℤ◌, ◌≤ℤ◌, ◌<ℤ◌, ◌⊎◌, inl, inr, sym, subst, arith}
-use Rattle.std.specs.List.{Contains}
-use Rattle.std.proofs.lemmas.Int.{ints, clamps, by_lt_z}
-use Rattle.std.specs.Int.{int_max, int_min}
-use Rattle.cts_model.specs.declared.place.Sink.{Sink}
-use Rattle.cts_model.specs.placement.Points.{apart}
-use Rattle.cts_model.specs.tree.Regions.{span, IsGreatestSpan, IsReach, IsUnion}
-use Rattle.tilted_rect.specs.Extremes.{u_above, u_below, v_above, v_below, Extremes, IsExtremes, spread, joined, joined_twice, HasExtremeSides, IsRegion, IsGrown, IsMeeting}
-use Rattle.tilted_rect.specs.Intervals.{between}
-use Rattle.tilted_rect.specs.Rects.{HasSides, gap_of}
-use Rattle.tilted_rect.specs.declared.rect.Rect.{Rect}
+use Rattle.tilted_rect.proofs.Vocabulary.{◌≡◌, List, [], ◌∷◌, ℤ, pos, ◌+ℤ◌, ◌-ℤ◌, ◌≤ℤ◌, ◌<ℤ◌, ◌⊎◌, inl, inr, sym, subst, arith, Contains, ints, clamps, by_lt_z, int_max, int_min, Sink, apart, span, IsGreatestSpan, IsReach, IsUnion, u_above, u_below, v_above, v_below, Extremes, IsExtremes, spread, joined, joined_twice, HasExtremeSides, IsRegion, IsGrown, IsMeeting, between, HasSides, gap_of, Rect}
 use Rattle.tilted_rect.proofs.ExtremeLemmas.{extremes_one, extremes_union}
 use Rattle.tilted_rect.proofs.RectLemmas.{max_either}
 use Rattle.tilted_rect.proofs.RegionLemmas.{region_extremes, region_from_sides, sides_from_region}

@@ -1,12 +1,6 @@
 -- No halving is lost: what is a multiple of 8 in places and offsets is a multiple of 4 in reaches
 -- and corners.
-use Rattle.std.proofs.Common.{◌≡◌, List, ℤ, pos, ◌+ℤ◌, ◌-ℤ◌, int_div, subst, arith}
-use Rattle.std.specs.List.{Contains}
-use Rattle.std.proofs.lemmas.Int.{ints}
-use Rattle.cts_model.specs.declared.place.Sink.{Sink}
-use Rattle.cts_model.specs.placement.Points.{IsMultipleOf, apart}
-use Rattle.cts_model.specs.tree.Regions.{span, IsGreatestSpan, IsReach}
-use Rattle.tilted_rect.specs.Extremes.{Extremes, IsExtremes, AreMultiplesOf, AreSidesMultiples}
+use Rattle.tilted_rect.proofs.Vocabulary.{◌≡◌, List, ℤ, pos, ◌+ℤ◌, ◌-ℤ◌, int_div, subst, arith, Contains, ints, Sink, IsMultipleOf, apart, span, IsGreatestSpan, IsReach, Extremes, IsExtremes, AreMultiplesOf, AreSidesMultiples}
 use Rattle.tilted_rect.proofs.RectLemmas.{max_either}
 use Rattle.cts_model.proofs.PointLemmas.{halves}
 

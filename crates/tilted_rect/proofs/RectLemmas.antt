@@ -1,15 +1,6 @@
 -- Tilted rectangles as sets of points: one axis first, at a scale, and then both.
-use Rattle.std.proofs.Common.{◌≡◌, ℕ, true, false, cond, int_lt, ℤ, pos, ◌+ℤ◌, ◌-ℤ◌, ◌*ℤ◌, ◌≤ℤ◌, ◌<ℤ◌, ◌↔◌, sym, ap, subst, ◌∙◌, arith}
-use Rattle.std.proofs.lemmas.Int.{ints}
-use Rattle.std.specs.Int.{int_max, int_min}
-use Rattle.cts_model.specs.declared.place.Uv.{Uv}
-use Rattle.cts_model.specs.placement.Points.{IsMultipleOf, apart, rotated_distance}
-use Rattle.tilted_rect.specs.declared.rect.Rect.{Rect}
-use Rattle.tilted_rect.specs.Corners.{IsSide, IsRect}
-use Rattle.tilted_rect.specs.Intervals.{between, clamped}
-use Rattle.tilted_rect.specs.Rects.{Holds, HoldBoth, IsNear, HasSides, CanGrowBy, gap_of, IsLeastDistance, clamped_into, IsNearest}
+use Rattle.tilted_rect.proofs.Vocabulary.{◌≡◌, ℕ, true, false, cond, int_lt, ℤ, pos, ◌+ℤ◌, ◌-ℤ◌, ◌*ℤ◌, ◌≤ℤ◌, ◌<ℤ◌, ◌↔◌, sym, ap, subst, ◌∙◌, arith, ints, int_max, int_min, Uv, IsMultipleOf, apart, rotated_distance, Rect, IsSide, IsRect, between, clamped, Holds, HoldBoth, IsNear, HasSides, CanGrowBy, gap_of, IsLeastDistance, clamped_into, IsNearest, scale_le, scale-sub, scale-add, scale-max, scale-apart}
 use Rattle.tilted_rect.proofs.IntervalLemmas.{clamped_ge, clamped_le, clamped_near, near_ge, near_le, clamped_least, between_least, between_shown, between_above, between_none, max_le, le_max_left, le_max_right, max_mono, above_left, above_right, le_min, min_le_left, min_le_right, scale-min, scale-clamped, scale-between}
-use Rattle.cts_model.proofs.ScaleLemmas.{scale_le, scale-sub, scale-add, scale-max, scale-apart}
 
 -- ---- points near a rectangle
 

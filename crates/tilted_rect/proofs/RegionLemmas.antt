@@ -1,20 +1,8 @@
 -- The region of a set of sinks: which rectangle it is, and where it has a point.
-use Rattle.std.proofs.Common.{◌≡◌, ℕ, List, [], ◌∷◌, ℤ, pos, ◌+ℤ◌, ◌-ℤ◌, ◌*ℤ◌, ◌≤ℤ◌, ◌↔◌, refl, sym, ap, subst, ◌∙◌, arith}
-use Rattle.std.specs.List.{Contains}
-use Rattle.std.proofs.lemmas.Int.{ints, clamps}
-use Rattle.std.proofs.lemmas.List.Elements.{Contains-append_right}
-use Rattle.cts_model.specs.declared.place.Sink.{Sink}
-use Rattle.cts_model.specs.declared.place.Uv.{Uv}
-use Rattle.cts_model.specs.placement.Points.{apart, scaled, rotated_distance}
-use Rattle.cts_model.specs.tree.Regions.{span, IsReach, InRegion, MeetTwoByTwo}
-use Rattle.tilted_rect.specs.Extremes.{Extremes, IsExtremes, spread, IsBetween, HasExtremeSides, IsRegion}
-use Rattle.tilted_rect.specs.Intervals.{clamped}
-use Rattle.tilted_rect.specs.Rects.{Holds, IsNear}
-use Rattle.tilted_rect.specs.declared.rect.Rect.{Rect}
+use Rattle.tilted_rect.proofs.Vocabulary.{◌≡◌, ℕ, List, [], ◌∷◌, ℤ, pos, ◌+ℤ◌, ◌-ℤ◌, ◌*ℤ◌, ◌≤ℤ◌, ◌↔◌, refl, sym, ap, subst, ◌∙◌, arith, Contains, ints, clamps, Contains-append_right, Sink, Uv, apart, scaled, rotated_distance, span, IsReach, InRegion, MeetTwoByTwo, Extremes, IsExtremes, spread, IsBetween, HasExtremeSides, IsRegion, clamped, Holds, IsNear, Rect, scale_le, scale-sub, scale-add, scale-max, scale-apart}
 use Rattle.tilted_rect.proofs.ExtremeLemmas.{contains_itself, contains_none, has_extremes}
 use Rattle.tilted_rect.proofs.IntervalLemmas.{clamped_ge, clamped_le, clamped_near, max_le, le_max_left, le_max_right}
 use Rattle.tilted_rect.proofs.RectLemmas.{over_one}
-use Rattle.cts_model.proofs.ScaleLemmas.{scale_le, scale-sub, scale-add, scale-max, scale-apart}
 use Rattle.tilted_rect.proofs.SpanLemmas.{one_greatest_span, spread_is_reach}
 
 -- ---- one axis, on plain numbers
@@ -361,8 +349,7 @@ point_in_region (sink ∷ more) twice scale radius reach within =
 
 -- a region has a point exactly where the reach is no more than its radius
 pub region_has_point : (sinks : List Sink) (twice : ℤ) (scale : ℕ) (radius : ℤ)
-    → IsReach sinks twice
-    → ((point : Uv) × InRegion sinks scale radius point)
+    → IsReach sinks twice → ((point : Uv) × InRegion sinks scale radius point)
     ↔ ((pos scale *ℤ twice) ≤ℤ (radius +ℤ radius))
 region_has_point sinks twice scale radius reach = (
   λ found. subst (λ z. (pos scale *ℤ z) ≤ℤ (radius +ℤ radius)) reach.shown

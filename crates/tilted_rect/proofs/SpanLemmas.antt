@@ -1,12 +1,5 @@
 -- The greatest span of two sets of sinks, by their extremes.
-use Rattle.std.proofs.Common.{◌≡◌, List, ℤ, ◌+ℤ◌, ◌-ℤ◌, ◌≤ℤ◌, ◌↔◌, subst, sym, arith}
-use Rattle.std.specs.List.{Contains}
-use Rattle.std.proofs.lemmas.Int.{ints, clamps}
-use Rattle.std.specs.Int.{int_max}
-use Rattle.cts_model.specs.declared.place.Sink.{Sink}
-use Rattle.cts_model.specs.placement.Points.{apart}
-use Rattle.cts_model.specs.tree.Regions.{span, IsGreatestSpan, IsReach}
-use Rattle.tilted_rect.specs.Extremes.{u_above, u_below, v_above, v_below, Extremes, IsExtremes, spread}
+use Rattle.tilted_rect.proofs.Vocabulary.{◌≡◌, List, ℤ, ◌+ℤ◌, ◌-ℤ◌, ◌≤ℤ◌, ◌↔◌, subst, sym, arith, Contains, ints, clamps, int_max, Sink, apart, span, IsGreatestSpan, IsReach, u_above, u_below, v_above, v_below, Extremes, IsExtremes, spread}
 use Rattle.tilted_rect.proofs.RectLemmas.{max_either}
 
 -- ---- on plain numbers

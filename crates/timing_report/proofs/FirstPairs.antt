@@ -1,14 +1,8 @@
 -- The first pair of a list that passes a test.
-use Rattle.std.proofs.Common.{ℕ, ◌≡◌, ◌<◌, Bool, true, false, Some, None, List, length, get_or, All, sym, ◌∙◌, ap, arith, inl, inr, ℤ, ◌≤ℤ◌, ◌<ℤ◌}
-use Rattle.std.specs.Prelude.{int_lt, find}
+use Rattle.timing_report.proofs.Vocabulary.{ℕ, ◌≡◌, ◌<◌, Bool, true, false, Some, None, List, length, get_or, All, sym, ◌∙◌, ap, arith, inl, inr, ℤ, ◌≤ℤ◌, ◌<ℤ◌, int_lt, find, cases_lt, ints, slice_get_within, slice_get-get_or, get_or_from_slice_get, PairDelay, IsFirstOf, IsTooQuick}
 use Rattle.std.specs.List.{position_or_len, slice_get}
-use Rattle.std.proofs.lemmas.Bool.{cases_lt}
-use Rattle.std.proofs.lemmas.Int.{ints}
 use Rattle.std.proofs.lemmas.List.Folds.{find_at}
 use Rattle.std.proofs.lemmas.List.Sums.{fails_before_first, passes_at_first}
-use Rattle.std.proofs.lemmas.Option.{slice_get_within, slice_get-get_or, get_or_from_slice_get}
-use Rattle.cts_model.specs.declared.timing.PairDelay.{PairDelay}
-use Rattle.timing_report.specs.ListedPairs.{IsFirstOf, IsTooQuick}
 
 -- what the test of a delay against the hold time says
 abbrev pub is_quick : ℤ → PairDelay → Bool

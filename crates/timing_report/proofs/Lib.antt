@@ -1,3 +1,4 @@
+mod Vocabulary
 mod MostDelayedPairs
 mod FirstPairs
 mod ListedPeriods

@@ -1,10 +1,5 @@
 -- What the greatest delay of a list asks of the period.
-use Rattle.std.proofs.Common.{ℕ, ◌≡◌, ◌<◌, List, length, get_or, All, subst, arith, ℤ, ◌+ℤ◌, ◌≤ℤ◌, ◌<ℤ◌}
-use Rattle.std.proofs.lemmas.Int.{ints}
-use Rattle.cts_model.specs.declared.tech.Tech.{Tech}
-use Rattle.cts_model.specs.declared.timing.PairDelay.{PairDelay}
-use Rattle.cts_model.specs.timing.PairLists.{IsSmallPair}
-use Rattle.timing_report.specs.ListedPairs.{IsMostDelayed, IsEnoughForAll, IsFloorForAll, IsMostNeeded}
+use Rattle.timing_report.proofs.Vocabulary.{ℕ, ◌≡◌, ◌<◌, List, length, get_or, All, subst, arith, ℤ, ◌+ℤ◌, ◌≤ℤ◌, ◌<ℤ◌, ints, Tech, PairDelay, IsSmallPair, IsMostDelayed, IsEnoughForAll, IsFloorForAll, IsMostNeeded}
 
 -- a listed pair has small delays where all have
 pub small_at : (pairs : List PairDelay) (place : ℕ) (pair : PairDelay) → place < length pairs

@@ -1,9 +1,5 @@
 -- The walk for the pair with the greatest delay, and of several the first.
-use Rattle.std.proofs.Common.{ℕ, ◌≡◌, ◌<◌, ◌≤◌, ◌+◌, Bool, true, false, if◌then◌else◌, List, get_or, inl, inr, sym, subst, refl, arith, ℤ, pos, ◌≤ℤ◌, ◌<ℤ◌}
-use Rattle.std.specs.Prelude.{int_lt}
-use Rattle.std.proofs.lemmas.Bool.{cases_lt}
-use Rattle.std.proofs.lemmas.Int.{ints}
-use Rattle.cts_model.specs.declared.timing.PairDelay.{PairDelay}
+use Rattle.timing_report.proofs.Vocabulary.{ℕ, ◌≡◌, ◌<◌, ◌≤◌, ◌+◌, Bool, true, false, if◌then◌else◌, List, get_or, inl, inr, sym, subst, refl, arith, ℤ, pos, ◌≤ℤ◌, ◌<ℤ◌, int_lt, cases_lt, ints, PairDelay}
 use Rattle.timing_report.proofs.FirstPairs.{is_less, is_no_less}
 
 -- the delay of the pair at a place

@@ -1,17 +1,9 @@
 -- From a list of all joined pairs to the definition over paths.
-use Rattle.std.proofs.Common.{ℕ, ◌≡◌, ◌<◌, List, length, get_or, All, sym, subst, arith, ℤ, ◌≤ℤ◌}
-use Rattle.std.proofs.lemmas.Int.{ints}
-use Rattle.cts_model.specs.declared.circuit.Circuit.{Circuit}
-use Rattle.cts_model.specs.declared.tech.Tech.{Tech}
-use Rattle.cts_model.specs.declared.timing.PairDelay.{PairDelay}
+use Rattle.timing_report.proofs.Vocabulary.{ℕ, ◌≡◌, ◌<◌, List, length, get_or, All, sym, subst, arith, ℤ, ◌≤ℤ◌, ints, Circuit, Tech, PairDelay, IsPath, least_delay, greatest_delay, ListsPairs, IsSmallPair, HasSmallDelays, IsFirstOf, IsTooQuick, Needs, IsEnoughForAll, IsZeroSkewOf}
 use Rattle.cts_model.specs.declared.timing.ZeroSkew.{ZeroSkew}
 use Rattle.cts_model.specs.declared.timing.ZeroSkew.TheVariants.{Fails, Floor, Setup}
-use Rattle.cts_model.specs.netlist.Paths.{IsPath}
-use Rattle.cts_model.specs.timing.Delays.{least_delay, greatest_delay}
 use Rattle.cts_model.specs.timing.EqualArrivals.{IsPairDelay, ComesBefore, IsFirstPair, FailsHold, NeedsPeriod, IsEnough, IsZeroSkew}
-use Rattle.cts_model.specs.timing.PairLists.{ListsPairs, IsSmallPair, HasSmallDelays}
 use Rattle.cts_model.proofs.PairOrder.{earlier_place}
-use Rattle.timing_report.specs.ListedPairs.{IsFirstOf, IsTooQuick, Needs, IsEnoughForAll, IsZeroSkewOf}
 use Rattle.timing_report.proofs.ListedPeriods.{small_at}
 
 -- the pair that a path joins, where it is listed, and how the path's delays lie in its own
@@ -61,8 +53,7 @@ module _ {circuit : Circuit} {tech : Tech} {pairs : List PairDelay}
       → ((from to : ℕ) → Shows from to → (path : List ℕ) × IsPath circuit from to path
       × ((listed : PairDelay) → listed.least ≤ℤ least_delay circuit tech path
       → greatest_delay circuit tech path ≤ℤ listed.greatest → (place : ℕ) → place < length pairs
-      → get_or pairs place listed ≡ listed → Property listed))
-      → IsFirstPair Shows pair.from pair.to
+      → get_or pairs place listed ≡ listed → Property listed)) → IsFirstPair Shows pair.from pair.to
   first_of_all Property Shows pair is_first here shown = record {
     here = here;
     first = λ from to before shows.

@@ -1,23 +1,13 @@
 -- From when what is launched comes to what registers have to spare.
-use Rattle.std.proofs.Common.{◌≡◌, ◌+◌, ◌<◌, ℕ, ℤ, pos, negsuc, ◌+ℤ◌, ◌*ℤ◌, ◌≤ℤ◌, List, [], ◌∷◌, ◌++◌, length, get_or, Option, Some, None, IsSomeAnd, inl, inr, refl, sym, ◌∙◌, ap, subst, arith}
-use Rattle.std.specs.Prelude.{nat_abs}
-use Rattle.std.proofs.lemmas.Int.{ints}
+use Rattle.timing_report.proofs.Vocabulary.{◌≡◌, ◌+◌, ◌<◌, ℕ, ℤ, pos, negsuc, ◌+ℤ◌, ◌*ℤ◌, ◌≤ℤ◌, List, [], ◌∷◌, ◌++◌, length, get_or, Option, Some, None, IsSomeAnd, inl, inr, refl, sym, ◌∙◌, ap, subst, arith, nat_abs, ints, slice_get_within, slice_get-get_or, Circuit, Tech, least_delay, greatest_delay, IsPath, setup_spare, hold_spare, IsLeastSpare, IsSlackOf, IsSlack, AreSlacks, AreSmallSlacks, moved, pushed_cases, setup_ticks, hold_ticks, IsTicks, IsSlackAt, AreSlacksBefore}
 use Rattle.std.proofs.lemmas.List.{length_push}
 use Rattle.std.proofs.lemmas.List.Elements.{All-push}
-use Rattle.std.proofs.lemmas.Option.{slice_get_within, slice_get-get_or}
 use Rattle.cts_base.specs.declared.fraction.Fraction.{Fraction}
-use Rattle.cts_model.specs.declared.circuit.Circuit.{Circuit}
 use Rattle.cts_model.specs.declared.schedule.Schedule.{Schedule}
 use Rattle.cts_model.specs.declared.schedule.Slack.{Slack}
-use Rattle.cts_model.specs.declared.tech.Tech.{Tech}
-use Rattle.cts_model.specs.timing.Delays.{least_delay, greatest_delay}
-use Rattle.cts_model.specs.netlist.Paths.{IsPath}
 use Rattle.cts_model.specs.timing.Schedules.{arrival_of}
-use Rattle.cts_model.specs.timing.Slacks.{setup_spare, hold_spare, IsLeastSpare, IsSlackOf, IsSlack, AreSlacks, AreSmallSlacks}
 use Rattle.path_delays.specs.declared.window.Window.{Window}
 use Rattle.path_delays.specs.Windows.{window_along, IsHull, IsHullIfAny, ComesTo, AreWindows}
-use Rattle.path_delays.proofs.WindowLemmas.{moved, pushed_cases}
-use Rattle.timing_report.specs.SpareTicks.{setup_ticks, hold_ticks, IsTicks, IsSlackAt, AreSlacksBefore}
 
 -- a number from 1 on is its size
 size_is : (den : ℤ) → pos 1 ≤ℤ den → pos (nat_abs den) ≡ den
@@ -28,8 +18,7 @@ size_is (negsuc n) proper = absurd (omega (arith, ints, proper))
 pub slacks_next : (tech : Tech) (period : Fraction) (at : List ℤ) (windows : List (Option Window))
     (below : ℕ) (slacks : List Slack) (slack : Slack)
     → IsSlackAt tech period (arrival_of at below) (get_or windows below None) slack
-    → AreSmallSlacks period.den slack
-    → AreSlacksBefore tech period at windows below slacks
+    → AreSmallSlacks period.den slack → AreSlacksBefore tech period at windows below slacks
     → AreSlacksBefore tech period at windows (below + 1) (slacks ++ slack ∷ [])
 slacks_next tech period at windows below slacks slack is small so_far = record {
   registers = omega (arith, length_push slacks slack, so_far.registers);

@@ -1,21 +1,7 @@
 -- The pairs that are kept, while the one on top is renewed.
-use Rattle.std.proofs.Common.{◌≡◌, ◌⊎◌, ℕ, zero, suc, ◌<◌, ◌+◌, Bool, true, false, cond, Option, Some, None, List, [], ◌∷◌, ◌++◌, ℤ, inl, inr, refl, sym, ap, subst, ◌∙◌, arith}
-use Rattle.std.specs.List.{All, Contains, slice_get, sum_by}
-use Rattle.std.specs.List.Sorted.{IsPermutation}
-use Rattle.std.specs.Option.{IfSome, option_to_list, option_map_or}
-use Rattle.std.specs.Ordering.{int_eq}
-use Rattle.std.specs.Bool.{nat_lt}
-use Rattle.std.proofs.lemmas.Bool.{cases_lt, lt-ltb, ltb-true}
+use Rattle.topology.proofs.Vocabulary.{◌≡◌, ◌⊎◌, ℕ, zero, suc, ◌<◌, ◌+◌, Bool, true, false, cond, Option, Some, None, List, [], ◌∷◌, ◌++◌, ℤ, inl, inr, refl, sym, ap, subst, ◌∙◌, arith, All, Contains, slice_get, sum_by, IsPermutation, IfSome, option_to_list, option_map_or, int_eq, nat_lt, cases_lt, lt-ltb, ltb-true, All-contains, Contains-append_right, Contains-permutation, sum_by-IsPermutation, Cluster, cost_of, Live, Pair, IsBefore, IsAtMost, IsReplaced, IsPair, IsKept, IsNearest, IsCovered, AreCovered, AreKept, IsFirstOf, cluster_of, owner_of}
 use Rattle.std.proofs.lemmas.Bool.Decides.{Decides-int_eq}
-use Rattle.std.proofs.lemmas.List.Elements.{All-contains, Contains-append_right}
-use Rattle.std.proofs.lemmas.List.Sorted.{Contains-permutation, sum_by-IsPermutation}
 use Rattle.std.proofs.lemmas.List.Sums.{sum_by-cons}
-use Rattle.tilted_rect.specs.declared.cluster.Cluster.{Cluster}
-use Rattle.tilted_rect.specs.ClusterSets.{cost_of}
-use Rattle.topology.specs.declared.live.Live.{Live}
-use Rattle.topology.specs.declared.pair.Pair.{Pair}
-use Rattle.topology.specs.Pairs.{IsBefore, IsAtMost, IsReplaced}
-use Rattle.topology.specs.LiveClusters.{IsPair, IsKept, IsNearest, IsCovered, AreCovered, AreKept, IsFirstOf, cluster_of, owner_of}
 use Rattle.topology.proofs.EntryLemmas.{node_within}
 use Rattle.topology.proofs.NearLemmas.{before_along, sides}
 
@@ -122,8 +108,7 @@ pair_broken live pair none = at (has_pair live pair) refl
 
 pub replaced_fewer : (live : Live) (old new : List Pair) (top : Pair) (found : Option Pair)
     → slice_get old 0 ≡ Some top → ¬ IsPair live top → IsReplaced old new found
-    → IsNearest live (owner_of live.early top) found
-    → broken_pairs live new < broken_pairs live old
+    → IsNearest live (owner_of live.early top) found → broken_pairs live new < broken_pairs live old
 replaced_fewer live old new top found on_top none replaced nearest =
     at found replaced.after nearest.there
   where

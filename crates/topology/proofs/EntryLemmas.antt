@@ -1,15 +1,5 @@
 -- The clusters of the nodes, under their keys and at their places.
-use Rattle.std.proofs.Common.{◌≡◌, ℕ, ◌<◌, Option, Some, None, get_or, length, pos, refl, sym, ap, subst, ◌∙◌}
-use Rattle.std.specs.List.{slice_get, slice_index_or}
-use Rattle.std.specs.Option.{IsSome, IsSomeAnd, option_and_then, option_map, option_map_or}
-use Rattle.std.proofs.lemmas.List.{get_or_default}
-use Rattle.std.proofs.lemmas.Option.{slice_get-get_or, slice_get_within}
-use Rattle.slab.specs.Slab.{get}
-use Rattle.tilted_rect.specs.declared.cluster.Cluster.{Cluster}
-use Rattle.topology.specs.declared.live.Entry.{Entry}
-use Rattle.topology.specs.declared.live.Live.{Live}
-use Rattle.topology.specs.Axes.{low_on}
-use Rattle.topology.specs.LiveClusters.{HasCluster, IsOrdered, IsUnder, IsUnjoined, cluster_of, entry_at, low_at, node_at}
+use Rattle.topology.proofs.Vocabulary.{◌≡◌, ℕ, ◌<◌, Option, Some, None, get_or, length, pos, refl, sym, ap, subst, ◌∙◌, slice_get, slice_index_or, IsSome, IsSomeAnd, option_and_then, option_map, option_map_or, get_or_default, slice_get-get_or, slice_get_within, get, Cluster, Entry, Live, low_on, HasCluster, IsOrdered, IsUnder, IsUnjoined, cluster_of, entry_at, low_at, node_at}
 
 -- ---- under a key
 
@@ -32,8 +22,7 @@ some_with P (Some x) holds = (x, refl, holds)
 
 -- what is under the key of a node is its cluster
 pub under_is : (live : Live) (key node : ℕ) (entry : Entry) → IsUnder live key node
-    → get live.clusters key ≡ Some entry
-    → (entry.node ≡ node) × HasCluster live node entry.cluster
+    → get live.clusters key ≡ Some entry → (entry.node ≡ node) × HasCluster live node entry.cluster
 under_is live key node entry (keyed, under) here = (
   subst (λ o. IsSomeAnd o (λ found. found.node ≡ node)) here under,
   ap (option_and_then (option_and_then (λ k. option_map (λ (found : Entry). found.cluster)
@@ -109,8 +98,7 @@ key_is live node key unjoined read =
 pub cluster_kept : (old new : Live) (node : ℕ)
     → slice_get new.keys node ≡ slice_get old.keys node
     → ((key : ℕ) → slice_get old.keys node ≡ Some (Some key)
-    → get new.clusters key ≡ get old.clusters key)
-    → cluster_of new node ≡ cluster_of old node
+    → get new.clusters key ≡ get old.clusters key) → cluster_of new node ≡ cluster_of old node
 cluster_kept old new node same kept =
     ap (option_and_then (option_and_then (λ k. option_map (λ (found : Entry). found.cluster)
     (get new.clusters k)))) same ∙ at (slice_get old.keys node) kept

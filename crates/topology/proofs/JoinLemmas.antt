@@ -1,27 +1,9 @@
 -- Which clusters there are, as sinks are added and pairs are merged.
-use Rattle.std.proofs.Common.{◌≡◌, ◌≢◌, ◌⊎◌, ℕ, ◌<◌, ◌≤◌, ◌+◌, List, [], ◌∷◌, ◌++◌, length, length-append, add-zero, get_or, take, Option, Some, None, inl, inr, refl, sym, ap, subst, ◌∙◌, arith}
-use Rattle.std.specs.Option.{IsNone, IsSome, option_to_list}
-use Rattle.std.specs.List.{All, slice_get}
-use Rattle.std.specs.List.Sorted.{IsPermutation}
-use Rattle.std.proofs.lemmas.Bool.{cases_eq, le-ltb}
-use Rattle.std.proofs.lemmas.List.{take-append-le}
-use Rattle.std.proofs.lemmas.List.Elements.{All-append, All-cons, All-nil}
-use Rattle.std.proofs.lemmas.Option.{slice_get-get_or}
+use Rattle.topology.proofs.Vocabulary.{◌≡◌, ◌≢◌, ◌⊎◌, ℕ, ◌<◌, ◌≤◌, ◌+◌, List, [], ◌∷◌, ◌++◌, length, length-append, add-zero, get_or, take, Option, Some, None, inl, inr, refl, sym, ap, subst, ◌∙◌, arith, IsNone, IsSome, option_to_list, All, slice_get, IsPermutation, cases_eq, le-ltb, take-append-le, All-append, All-cons, All-nil, slice_get-get_or, Sink, Merge, IsCheapest, IsLive, sinks_below, Cluster, IsCluster, append_is_union, Live, Pair, merge_of, HasCluster, IsPair, IsCheapestPair, IsAdded, IsJoined, IsLeft, IsMerging, IsNearest, AreCovered, AreKept, AreLive, WereCheapest, AreFirstSinks, IsUnjoined, cluster_of, owner_of}
 use Rattle.std.proofs.Math.ListN.{get_or-append}
 use Rattle.std.proofs.Math.Seq.{get_or-append_seam, take-append_seam}
-use Rattle.cts_model.specs.declared.place.Sink.{Sink}
-use Rattle.cts_model.specs.declared.tree.Merge.{Merge}
-use Rattle.cts_model.specs.tree.GreedyMerges.{IsCheapest}
-use Rattle.cts_model.specs.tree.Topologies.{IsLive, sinks_below}
 use Rattle.cts_model.proofs.TopologyLemmas.{EachMerge, first_made, second_made, sinks_below-append, sinks_below-push, sinks_below-sink}
-use Rattle.tilted_rect.specs.declared.cluster.Cluster.{Cluster}
-use Rattle.tilted_rect.specs.ClusterSets.{IsCluster}
 use Rattle.cts_model.specs.tree.Regions.{IsUnion}
-use Rattle.tilted_rect.proofs.ExtremeLemmas.{append_is_union}
-use Rattle.topology.specs.declared.live.Live.{Live}
-use Rattle.topology.specs.declared.pair.Pair.{Pair}
-use Rattle.topology.specs.Pairs.{merge_of}
-use Rattle.topology.specs.LiveClusters.{HasCluster, IsPair, IsCheapestPair, IsAdded, IsJoined, IsLeft, IsMerging, IsNearest, AreCovered, AreKept, AreLive, WereCheapest, AreFirstSinks, IsUnjoined, cluster_of, owner_of}
 use Rattle.topology.proofs.CoverLemmas.{search_next}
 use Rattle.topology.proofs.EntryLemmas.{has_unjoined, node_within, one_cluster, place_there, unjoined_there}
 use Rattle.topology.proofs.ListLemmas.{pushed_cases}
@@ -119,8 +101,7 @@ pub joins : (old middle last new : Live) (pair : Pair) (one other both : Cluster
     → pair.first < pair.second → HasCluster old pair.first one → IsLeft old middle pair.first
     → HasCluster middle pair.second other → IsLeft middle last pair.second
     → ((first second sinks : List Sink) → IsUnion first second sinks → IsCluster first one
-    → IsCluster second other → IsCluster sinks both)
-    → IsAdded last new both → IsJoined old new pair
+    → IsCluster second other → IsCluster sinks both) → IsAdded last new both → IsJoined old new pair
 joins old middle last new pair one other both ordered first left second also_left joined
     added = record {
       one = one;

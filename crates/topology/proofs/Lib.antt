@@ -1,3 +1,4 @@
+mod Vocabulary
 mod CoverLemmas
 mod EntryLemmas
 mod JoinLemmas

@@ -1,20 +1,5 @@
 -- Each merge of the cheapest pair keeps the clusters and the merges so far right.
-use Rattle.std.proofs.Common.{◌≡◌, ◌⊎◌, ℕ, ◌<◌, ◌≤◌, ◌+◌, List, length, ℤ, ◌+ℤ◌, ◌-ℤ◌, ◌≤ℤ◌, inl, inr, refl, sym, ap, subst, arith}
-use Rattle.std.proofs.lemmas.Bool.{cases_lt}
-use Rattle.std.proofs.lemmas.Int.{ints, by_lt_z}
-use Rattle.cts_model.specs.declared.place.Sink.{Sink}
-use Rattle.cts_model.specs.declared.tree.Merge.{Merge}
-use Rattle.cts_model.specs.tree.GreedyMerges.{IsCheaper, IsDoubleCost, IsCheapest}
-use Rattle.cts_model.specs.tree.Topologies.{IsLive, IsMerge, sinks_below}
-use Rattle.tilted_rect.specs.declared.cluster.Cluster.{Cluster}
-use Rattle.tilted_rect.specs.ClusterSets.{IsCluster, cost_of}
-use Rattle.tilted_rect.proofs.ExtremeLemmas.{append_is_union}
-use Rattle.tilted_rect.proofs.ClusterLemmas.{cost_reach}
-use Rattle.tilted_rect.proofs.SpanLemmas.{one_greatest_span}
-use Rattle.topology.specs.declared.live.Live.{Live}
-use Rattle.topology.specs.declared.pair.Pair.{Pair}
-use Rattle.topology.specs.Pairs.{merge_of}
-use Rattle.topology.specs.LiveClusters.{HasCluster, IsPair, IsCheapestPair, AreLive, node_at}
+use Rattle.topology.proofs.Vocabulary.{◌≡◌, ◌⊎◌, ℕ, ◌<◌, ◌≤◌, ◌+◌, List, length, ℤ, ◌+ℤ◌, ◌-ℤ◌, ◌≤ℤ◌, inl, inr, refl, sym, ap, subst, arith, cases_lt, ints, by_lt_z, Sink, Merge, IsCheaper, IsDoubleCost, IsCheapest, IsLive, IsMerge, sinks_below, Cluster, IsCluster, cost_of, append_is_union, cost_reach, one_greatest_span, Live, Pair, merge_of, HasCluster, IsPair, IsCheapestPair, AreLive, node_at}
 use Rattle.topology.proofs.EntryLemmas.{entry_is, entry_there, has_unjoined, low_is, unjoined_there}
 
 -- ---- the cheapest pair is the cheapest merge
@@ -107,8 +92,7 @@ module _ {sinks : List Sink} {merges : List Merge} {live : Live}
       doubled a b one other (inr (same, lower)) = inr (ap (λ z. z +ℤ z) same, lower)
 
       least : (other : Merge) (other_cost : ℤ) → IsMerge (length sinks) merges other
-          → IsDoubleCost sinks merges other other_cost
-          → (other ≡ merge_of pair)
+          → IsDoubleCost sinks merges other other_cost → (other ≡ merge_of pair)
           ⊎ IsCheaper (pair.cost +ℤ pair.cost) (merge_of pair) other_cost other
       least other other_cost joins costs =
           let (one, has) = live_cluster other.first joins.first in

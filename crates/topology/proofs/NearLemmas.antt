@@ -1,22 +1,6 @@
 -- A search for the cheapest pair that a node keeps.
-use Rattle.std.proofs.Common.{◌≡◌, ◌↔◌, ◌⊎◌, ℕ, ◌<◌, ◌≤◌, cond, Option, Some, None, length, ℤ, pos, ◌-ℤ◌, ◌≤ℤ◌, ◌<ℤ◌, inl, inr, refl, sym, ap, subst, ◌∙◌, ◌^◌, FitsSigned, arith}
-use Rattle.std.specs.Int.{int_max, w128}
-use Rattle.std.specs.Bool.{nat_lt}
-use Rattle.std.specs.Option.{IsSomeAnd}
-use Rattle.std.proofs.lemmas.Bool.{cases_lt, lt-ltb, le-ltb}
-use Rattle.std.proofs.lemmas.Int.{ints, clamps}
-use Rattle.cts_model.specs.placement.Points.{IsBelow}
-use Rattle.tilted_rect.specs.declared.cluster.Cluster.{Cluster}
-use Rattle.tilted_rect.specs.ClusterSets.{cost_of}
+use Rattle.topology.proofs.Vocabulary.{◌≡◌, ◌↔◌, ◌⊎◌, ℕ, ◌<◌, ◌≤◌, cond, Option, Some, None, length, ℤ, pos, ◌-ℤ◌, ◌≤ℤ◌, ◌<ℤ◌, inl, inr, refl, sym, ap, subst, ◌∙◌, ◌^◌, FitsSigned, arith, int_max, w128, nat_lt, IsSomeAnd, cases_lt, lt-ltb, le-ltb, ints, clamps, IsBelow, Cluster, cost_of, gap_of, Axis, U, V, Reach, Live, Pair, high_on, low_on, IsBefore, IsAtMost, IsCheaperOf, HasCluster, IsPair, IsKept, IsKeptWith, IsLooked, IsNearest, IsOrdered, IsPast, cluster_of, low_at, node_at, owner_of, other_of}
 use Rattle.tilted_rect.specs.Intervals.{between}
-use Rattle.tilted_rect.specs.Rects.{gap_of}
-use Rattle.topology.specs.declared.axis.Axis.{Axis}
-use Rattle.topology.specs.declared.axis.Axis.TheVariants.{U, V, Reach}
-use Rattle.topology.specs.declared.live.Live.{Live}
-use Rattle.topology.specs.declared.pair.Pair.{Pair}
-use Rattle.topology.specs.Axes.{high_on, low_on}
-use Rattle.topology.specs.Pairs.{IsBefore, IsAtMost, IsCheaperOf}
-use Rattle.topology.specs.LiveClusters.{HasCluster, IsPair, IsKept, IsKeptWith, IsLooked, IsNearest, IsOrdered, IsPast, cluster_of, low_at, node_at, owner_of, other_of}
 use Rattle.topology.proofs.EntryLemmas.{low_is, one_cluster, place_there}
 
 -- ---- the order of pairs
@@ -162,8 +146,7 @@ apart axis one other cost is = record {
 
 pub kept_apart : (live : Live) (owner node : ℕ) (pair : Pair) (cluster : Cluster)
     → IsKeptWith live owner node pair → HasCluster live owner cluster
-    → (other : Cluster) × HasCluster live node other
-    × IsApart live.axis cluster other pair.cost
+    → (other : Cluster) × HasCluster live node other × IsApart live.axis cluster other pair.cost
 kept_apart live owner node pair cluster held has = elim
     (sides live.early pair owner node held.kept.owner held.other) [
       | inl (first, second) ↦ (
@@ -291,8 +274,7 @@ module _ {live : Live} {owner : ℕ} where
       → ((pair : Pair) → now ≡ Some pair → IsKept live owner pair)
       → IsSomeAnd now (λ pair. IsPast live.early pair gap node)
       → ((other : ℕ) → IsWanted other → IsPassed other ⊎ ((pair : Pair)
-      → other < length live.order.items
-      → IsKeptWith live owner (node_at live other) pair
+      → other < length live.order.items → IsKeptWith live owner (node_at live other) pair
       → (gap ≤ℤ pair.cost) × (pair.cost ≡ gap → node ≤ other_of live.early pair)))
       → IsLooked live owner IsWanted old now
   look_passes IsPassed IsWanted old now gap node held kept past rest = record {
@@ -340,8 +322,7 @@ module _ {live : Live} {owner : ℕ} where
       (has : HasCluster live owner cluster) where
     -- from a place upwards all are as far
     pub far_above : (place other : ℕ) (pair : Pair) → place ≤ other
-        → other < length live.order.items
-        → IsKeptWith live owner (node_at live other) pair
+        → other < length live.order.items → IsKeptWith live owner (node_at live other) pair
         → (low_at live place -ℤ high_on live.axis cluster) ≤ℤ pair.cost
     far_above place other pair from below with_it =
         let (found, here, is) = kept_apart live owner _ pair cluster with_it has in
@@ -350,8 +331,7 @@ module _ {live : Live} {owner : ℕ} where
 
     -- and those as far have no lower number
     pub behind_above : (place other : ℕ) (pair : Pair) → place ≤ other
-        → other < length live.order.items
-        → IsKeptWith live owner (node_at live other) pair
+        → other < length live.order.items → IsKeptWith live owner (node_at live other) pair
         → pair.cost ≡ (low_at live place -ℤ high_on live.axis cluster)
         → node_at live place ≤ other_of live.early pair
     behind_above place other pair from below with_it same = elim (cases_lt place other) [
@@ -379,8 +359,7 @@ module _ {live : Live} {owner : ℕ} where
 
     -- and from a place downwards
     pub far_below : (place other : ℕ) (pair : Pair) → other ≤ place
-        → place < length live.order.items
-        → IsKeptWith live owner (node_at live other) pair
+        → place < length live.order.items → IsKeptWith live owner (node_at live other) pair
         → (low_on live.axis cluster -ℤ live.widest -ℤ low_at live place)
         ≤ℤ pair.cost
     far_below place other pair to below with_it =

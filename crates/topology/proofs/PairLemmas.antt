@@ -1,11 +1,5 @@
 -- Which pair two nodes have, and which of them keeps it.
-use Rattle.std.proofs.Common.{◌≡◌, ◌↔◌, ℕ, ◌<◌, ◌≤◌, Option, Some, None, ℤ, inl, inr, refl, sym, ap, subst, ◌∙◌, arith}
-use Rattle.std.proofs.lemmas.Bool.{cases_lt, lt-ltb, le-ltb}
-use Rattle.tilted_rect.specs.declared.cluster.Cluster.{Cluster}
-use Rattle.tilted_rect.specs.ClusterSets.{cost_of}
-use Rattle.topology.specs.declared.live.Live.{Live}
-use Rattle.topology.specs.declared.pair.Pair.{Pair}
-use Rattle.topology.specs.LiveClusters.{HasCluster, IsPair, IsKeptWith, owner_of, other_of}
+use Rattle.topology.proofs.Vocabulary.{◌≡◌, ◌↔◌, ℕ, ◌<◌, ◌≤◌, Option, Some, None, ℤ, inl, inr, refl, sym, ap, subst, ◌∙◌, arith, cases_lt, lt-ltb, le-ltb, Cluster, cost_of, Live, Pair, HasCluster, IsPair, IsKeptWith, owner_of, other_of}
 use Rattle.topology.proofs.EntryLemmas.{one_cluster}
 
 -- the pair is of those two nodes
@@ -85,8 +79,7 @@ kept_behind live owner other found behind law pair = (
 )
 
 pub kept_ahead : (live : Live) (owner other : ℕ) (found : Option Pair) → owner < live.early
-    → other < live.early
-    → ((pair : Pair) → (found ≡ Some pair) ↔ IsOf live owner other pair)
+    → other < live.early → ((pair : Pair) → (found ≡ Some pair) ↔ IsOf live owner other pair)
     → (pair : Pair) → (found ≡ Some pair) ↔ IsKeptWith live owner other pair
 kept_ahead live owner other found ahead other_ahead law pair = (
   λ is.

@@ -1,17 +1,7 @@
 -- The pair on top of a queue.
-use Rattle.std.proofs.Common.{◌≡◌, false, ◌<◌, List, [], ◌∷◌, map, length, drop, get_or, Option, Some, None, refl, sym, ap, subst, arith}
-use Rattle.std.specs.BinaryHeap.{IsUpperBound}
-use Rattle.std.specs.List.{All, slice_get}
-use Rattle.std.specs.List.Sorted.{IsPermutation}
-use Rattle.std.specs.Option.{IfSome, IsSome}
-use Rattle.std.specs.Ordering.{is_lt}
+use Rattle.topology.proofs.Vocabulary.{◌≡◌, false, ◌<◌, List, [], ◌∷◌, map, length, drop, get_or, Option, Some, None, refl, sym, ap, subst, arith, IsUpperBound, All, slice_get, IsPermutation, IfSome, IsSome, is_lt, length-map, All-cons, All-nil, IsPermutation-cons, IsPermutation-map, IsPermutation-refl, IsPermutation-trans, length_permutation, Pair, IsBefore, IsReplaced, by_turn}
 use Rattle.std.specs.declared.cmp.Reverse.{Reverse}
 use Rattle.std.proofs.lemmas.Grind.{common_steps}
-use Rattle.std.proofs.lemmas.List.{length-map}
-use Rattle.std.proofs.lemmas.List.Elements.{All-cons, All-nil}
-use Rattle.std.proofs.lemmas.List.Sorted.{IsPermutation-cons, IsPermutation-map, IsPermutation-refl, IsPermutation-trans, length_permutation}
-use Rattle.topology.specs.declared.pair.Pair.{Pair}
-use Rattle.topology.specs.Pairs.{IsBefore, IsReplaced, by_turn}
 
 -- what the order doesn't put before a pair isn't to be merged before it
 not_before : (pair other : Pair) → is_lt (by_turn other pair) ≡ false → ¬ IsBefore other pair

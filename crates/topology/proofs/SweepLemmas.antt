@@ -1,25 +1,5 @@
 -- Pairs that cost nothing are merged first, node by node.
-use Rattle.std.proofs.Common.{◌≡◌, ℕ, ◌<◌, ◌≤◌, ◌+◌, ◌^◌, List, [], ◌∷◌, ◌++◌, length, Option, Some, None, ℤ, pos, ◌+ℤ◌, ◌-ℤ◌, ◌≤ℤ◌, ◌<ℤ◌, inl, inr, refl, sym, ap, subst, ◌∙◌, arith}
-use Rattle.std.specs.Int.{int_max}
-use Rattle.std.specs.List.{Contains}
-use Rattle.std.specs.List.Sorted.{IsPermutation}
-use Rattle.std.specs.Option.{IsSomeAnd, option_to_list}
-use Rattle.std.proofs.lemmas.Bool.{cases_lt}
-use Rattle.std.proofs.lemmas.Int.{ints, clamps, by_lt_z}
-use Rattle.std.proofs.lemmas.List.Sorted.{Contains-permutation, IsPermutation-sym}
-use Rattle.cts_model.specs.declared.place.Sink.{Sink}
-use Rattle.cts_model.specs.declared.tree.Merge.{Merge}
-use Rattle.cts_model.specs.tree.Topologies.{sinks_below}
-use Rattle.tilted_rect.specs.declared.cluster.Cluster.{Cluster}
-use Rattle.tilted_rect.specs.ClusterSets.{IsCluster, cost_of}
-use Rattle.tilted_rect.specs.Rects.{gap_of}
-use Rattle.tilted_rect.proofs.ClusterLemmas.{cost_reach}
-use Rattle.tilted_rect.proofs.ExtremeLemmas.{append_is_union}
-use Rattle.tilted_rect.proofs.SpanLemmas.{one_greatest_span}
-use Rattle.topology.specs.declared.live.Live.{Live}
-use Rattle.topology.specs.declared.pair.Pair.{Pair}
-use Rattle.topology.specs.Pairs.{IsBefore, merge_of}
-use Rattle.topology.specs.LiveClusters.{HasCluster, IsKept, IsMerging, IsPair, IsCheapestPair, IsCovered, IsJoined, IsNearest, IsOrdered, IsSwept, AreLive, owner_of}
+use Rattle.topology.proofs.Vocabulary.{◌≡◌, ℕ, ◌<◌, ◌≤◌, ◌+◌, ◌^◌, List, [], ◌∷◌, ◌++◌, length, Option, Some, None, ℤ, pos, ◌+ℤ◌, ◌-ℤ◌, ◌≤ℤ◌, ◌<ℤ◌, inl, inr, refl, sym, ap, subst, ◌∙◌, arith, int_max, Contains, IsPermutation, IsSomeAnd, option_to_list, cases_lt, ints, clamps, by_lt_z, Contains-permutation, IsPermutation-sym, Sink, Merge, sinks_below, Cluster, IsCluster, cost_of, gap_of, cost_reach, append_is_union, one_greatest_span, Live, Pair, IsBefore, merge_of, HasCluster, IsKept, IsMerging, IsPair, IsCheapestPair, IsCovered, IsJoined, IsNearest, IsOrdered, IsSwept, AreLive, owner_of}
 use Rattle.topology.proofs.CoverLemmas.{contains_cases, search_next}
 use Rattle.topology.proofs.EntryLemmas.{node_within, one_cluster}
 use Rattle.topology.proofs.JoinLemmas.{merged_live, some_left, still_cases, were_cheapest}
@@ -177,8 +157,7 @@ sweep_merges sinks merges old new kept node pair held nearest free joined = reco
     not_less a b c less same most = omega (arith, ints, less, same, most)
 
     farther : (other : Pair) (is : IsPair new other) → HasCluster old other.first is.one
-        → other.second ≡ length old.keys → joined.both ≡ is.other
-        → ¬ IsBefore other (record {
+        → other.second ≡ length old.keys → joined.both ≡ is.other → ¬ IsBefore other (record {
           cost = cost_of is.one joined.one;
           first = other.first;
           second = pair.first;
@@ -268,8 +247,7 @@ sweep_merges sinks merges old new kept node pair held nearest free joined = reco
 pub sweep_keeps : (sinks : List Sink) (merges : List Merge) (live : Live) (kept new : List Pair)
     (node : ℕ) (found : Option Pair) → IsSwept sinks merges live kept node
     → IsNearest live node found → ¬ IsSomeAnd found (λ pair. pair.cost ≡ pos 0)
-    → IsPermutation (option_to_list found ++ kept) new
-    → IsSwept sinks merges live new (node + 1)
+    → IsPermutation (option_to_list found ++ kept) new → IsSwept sinks merges live new (node + 1)
 sweep_keeps sinks merges live kept new node found held nearest some moved = record {
   live = held.live;
   rest = held.rest;

@@ -1,21 +1,7 @@
 -- What a room holds of a merge for some sinks, it holds for others that are alike below it.
-use Rattle.std.proofs.Common.{◌≡◌, ◌≢◌, ℕ, zero, suc, ◌+◌, ◌<◌, List, [], ◌∷◌, ◌++◌, Contains, length, Some, Option, IsSomeAnd, slice_get, slice_set, filter_map, ℤ, ◌+ℤ◌, refl, sym, ap, subst, ◌∙◌, arith}
+use Rattle.tree_tests.proofs.Vocabulary.{◌≡◌, ◌≢◌, ℕ, zero, suc, ◌+◌, ◌<◌, List, [], ◌∷◌, ◌++◌, Contains, length, Some, Option, IsSomeAnd, slice_get, slice_set, filter_map, ℤ, ◌+ℤ◌, refl, sym, ap, subst, ◌∙◌, arith, length-set, All-cons, All-contains, All-nil, All-set, Contains-append_right, Sink, Merge, Show, IsReach, ShowsMerge, AreTreeSinks, IsTreeSink, IsTopology, numbers_below, sinks_below, numbers_below-merge, numbers_below-sink, some_and, IsRegion, HoldsMerge, IsRenewed, IsSinkSet, WorkState, merges_renewed, merges_set, set_kept}
 use Rattle.std.specs.List.{All, cons_option}
-use Rattle.std.proofs.lemmas.List.{length-set}
-use Rattle.std.proofs.lemmas.List.Elements.{All-cons, All-contains, All-nil, All-set, Contains-append_right}
-use Rattle.cts_model.specs.declared.place.Sink.{Sink}
-use Rattle.cts_model.specs.declared.tree.Merge.{Merge}
-use Rattle.cts_model.specs.declared.tree.Show.{Show}
 use Rattle.cts_model.specs.declared.tree.Show.TheVariants as shows
-use Rattle.cts_model.specs.tree.Regions.{IsReach}
-use Rattle.cts_model.specs.tree.ShownReaches.{ShowsMerge}
-use Rattle.cts_model.specs.tree.Sinks.{AreTreeSinks, IsTreeSink}
-use Rattle.cts_model.specs.tree.Topologies.{IsTopology, numbers_below, sinks_below}
-use Rattle.cts_model.proofs.TopologyLemmas.{numbers_below-merge, numbers_below-sink, some_and}
-use Rattle.tilted_rect.specs.Extremes.{IsRegion}
-use Rattle.merge_up.specs.Merging.{HoldsMerge, IsRenewed, IsSinkSet}
-use Rattle.merge_up.specs.Works.{WorkState}
-use Rattle.merge_up.proofs.WorkLemmas.{merges_renewed, merges_set, set_kept}
 
 -- two rules that agree on each item pick the same
 filter_map_same : {X Y : Type 0} (pick other : X → Option Y) (items : List X)

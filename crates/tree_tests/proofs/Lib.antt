@@ -1,2 +1,3 @@
+mod Vocabulary
 mod HeldForOthers
 mod OnceSet

@@ -1,24 +1,11 @@
 -- Three sinks of which the third is set closer to the others: what is held of their merges stays.
-use Rattle.std.proofs.Common.{◌≡◌, ℕ, zero, suc, ◌+◌, ◌^◌, ◌<◌, List, [], ◌∷◌, ◌++◌, Contains, length, Some, IsSomeAnd, slice_get, filter_map, ℤ, pos, neg_ℤ, ◌+ℤ◌, ◌≤ℤ◌, ◌<ℤ◌, refl, sym, ap, subst, ◌∙◌, arith}
+use Rattle.tree_tests.proofs.Vocabulary.{◌≡◌, ℕ, zero, suc, ◌+◌, ◌^◌, ◌<◌, List, [], ◌∷◌, ◌++◌, Contains, length, Some, IsSomeAnd, slice_get, filter_map, ℤ, pos, neg_ℤ, ◌+ℤ◌, ◌≤ℤ◌, ◌<ℤ◌, refl, sym, ap, subst, ◌∙◌, arith, All-cons, All-contains, All-nil, Sink, Merge, Show, IsReach, span, ShowsMerge, AreTreeSinks, IsTreeSink, IsTopology, numbers_below, numbers_below-sink, Extremes, IsExtremes, IsRegion, u_above, u_below, v_above, v_below, HoldsMerge, HoldsSink, IsMerged, IsSinkSet, IsUnsettled, WorkState, IsFit, IsBegun, begun_next, merges_set}
 use Rattle.std.proofs.lemmas.Int.{ints, clamps}
 use Rattle.std.proofs.lemmas.Option.{slice_get_within}
-use Rattle.std.proofs.lemmas.List.Elements.{All-cons, All-contains, All-nil}
-use Rattle.cts_model.specs.declared.place.Sink.{Sink}
-use Rattle.cts_model.specs.declared.tree.Merge.{Merge}
-use Rattle.cts_model.specs.declared.tree.Show.{Show}
 use Rattle.cts_model.specs.declared.tree.Show.TheVariants as shows
 use Rattle.cts_model.specs.placement.Points.{IsBelow, IsMultipleOf}
-use Rattle.cts_model.specs.tree.Regions.{IsReach, span}
-use Rattle.cts_model.specs.tree.ShownReaches.{ShowsMerge}
-use Rattle.cts_model.specs.tree.Sinks.{AreTreeSinks, IsTreeSink}
-use Rattle.cts_model.specs.tree.Topologies.{IsTopology, numbers_below}
-use Rattle.cts_model.proofs.TopologyLemmas.{numbers_below-sink}
-use Rattle.tilted_rect.specs.Extremes.{Extremes, IsExtremes, IsRegion, u_above, u_below, v_above, v_below}
 use Rattle.tilted_rect.proofs.RegionLemmas.{region_from_sides, sides_from_region}
 use Rattle.tilted_rect.proofs.SpanLemmas.{reach_is_spread}
-use Rattle.merge_up.specs.Merging.{HoldsMerge, HoldsSink, IsMerged, IsSinkSet, IsUnsettled}
-use Rattle.merge_up.specs.Works.{WorkState, IsFit}
-use Rattle.merge_up.proofs.WorkLemmas.{IsBegun, begun_next, merges_set}
 use Rattle.tree_tests.proofs.HeldForOthers.{JoinsAt, held_of_two, joined_numbers}
 
 -- a sink with the offset 0

@@ -1,9 +1,6 @@
 -- What the code's numbers say of a detour: half of what a length is beyond a distance.
-use Rattle.std.proofs.Common.{◌≡◌, ◌^◌, ℤ, pos, ◌+ℤ◌, ◌-ℤ◌, ◌≤ℤ◌, ◌<ℤ◌, FitsSigned, sym, subst, arith}
-use Rattle.std.proofs.lemmas.Int.{ints}
+use Rattle.wire_detours.proofs.Vocabulary.{◌≡◌, ◌^◌, ℤ, pos, ◌+ℤ◌, ◌-ℤ◌, ◌≤ℤ◌, ◌<ℤ◌, FitsSigned, sym, subst, arith, ints, IsBelow, IsMultipleOf, distance, Point}
 use Rattle.std.specs.Int.{w128}
-use Rattle.cts_model.specs.placement.Points.{IsBelow, IsMultipleOf, distance}
-use Rattle.cts_model.specs.declared.place.Point.{Point}
 use Rattle.wire_detours.proofs.PieceLemmas.{apart_least}
 use mir.Val.{to_z, of_z}
 

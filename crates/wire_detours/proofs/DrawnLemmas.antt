@@ -1,12 +1,6 @@
 -- The wires of each case are drawn wires.
-use Rattle.std.proofs.Common.{◌≡◌, ◌≢◌, [], ◌∷◌, All, AllPairs, Some, inl, inr, ℤ, pos, ◌+ℤ◌, ◌-ℤ◌, ◌≤ℤ◌, ◌<ℤ◌, refl, sym, ap, arith}
-use Rattle.std.proofs.lemmas.Int.{ints}
-use Rattle.std.proofs.lemmas.List.Elements.{All-nil, All-cons}
+use Rattle.wire_detours.proofs.Vocabulary.{◌≡◌, ◌≢◌, [], ◌∷◌, All, AllPairs, Some, inl, inr, ℤ, pos, ◌+ℤ◌, ◌-ℤ◌, ◌≤ℤ◌, ◌<ℤ◌, refl, sym, ap, arith, ints, All-nil, All-cons, Point, apart, distance, Piece, pieces, total, IsStraight, AreApart, IsDrawn, at, bent, under, over, beside, round, HasDetour}
 use Rattle.std.proofs.lemmas.List.Kept.{AllPairs-cons}
-use Rattle.cts_model.specs.declared.place.Point.{Point}
-use Rattle.cts_model.specs.placement.Points.{apart, distance}
-use Rattle.cts_model.specs.tree.DrawnWires.{Piece, pieces, total, IsStraight, AreApart, IsDrawn}
-use Rattle.wire_detours.specs.WirePoints.{at, bent, under, over, beside, round, HasDetour}
 use Rattle.wire_detours.proofs.PieceLemmas.{same_point, upright_level, level_upright, both_upright, both_level, apart_same, apart_up, apart_down, apart_above, apart_below, differs_above, differs_back, apart_back, apart_least, apart_more}
 
 -- ---- lists of few pieces

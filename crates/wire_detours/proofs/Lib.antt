@@ -1,3 +1,4 @@
+mod Vocabulary
 pub mod DetourLemmas
 pub mod DrawnLemmas
 pub mod PieceLemmas

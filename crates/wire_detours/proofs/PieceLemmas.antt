@@ -1,9 +1,5 @@
 -- Pieces of wires along the axes, and what two of them have in common.
-use Rattle.std.proofs.Common.{◌≡◌, ◌≢◌, ℕ, ◌<◌, ℤ, pos, ◌+ℤ◌, ◌-ℤ◌, ◌*ℤ◌, ◌≤ℤ◌, ◌<ℤ◌, sym, ap, ◌∙◌, arith}
-use Rattle.std.proofs.lemmas.Int.{ints, clamps, by_lt_z}
-use Rattle.cts_model.specs.declared.place.Point.{Point}
-use Rattle.cts_model.specs.placement.Points.{apart}
-use Rattle.cts_model.specs.tree.DrawnWires.{Piece, IsBetween, IsOn, AreApart}
+use Rattle.wire_detours.proofs.Vocabulary.{◌≡◌, ◌≢◌, ℕ, ◌<◌, ℤ, pos, ◌+ℤ◌, ◌-ℤ◌, ◌*ℤ◌, ◌≤ℤ◌, ◌<ℤ◌, sym, ap, ◌∙◌, arith, ints, clamps, by_lt_z, Point, apart, Piece, IsBetween, IsOn, AreApart}
 use Rattle.cts_model.proofs.ScaleLemmas.{scale_lt}
 
 -- points are the same where their coordinates are

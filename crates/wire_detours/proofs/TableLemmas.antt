@@ -1,12 +1,6 @@
 -- What a wire with the points of a case promises: they are a drawn wire, and those of the table.
-use Rattle.std.proofs.Common.{◌≡◌, ◌≢◌, ◌⊎◌, ℕ, zero, suc, ◌≤◌, [], ◌∷◌, All, take, replicate, inl, inr, ℤ, pos, ◌+ℤ◌, ◌≤ℤ◌, ◌<ℤ◌, refl, sym, ap, subst, arith}
-use Rattle.std.proofs.lemmas.Int.{ints, by_lt_z}
-use Rattle.std.proofs.lemmas.List.Elements.{All-nil, All-cons}
-use Rattle.cts_model.specs.declared.place.Point.{Point}
-use Rattle.cts_model.specs.placement.Points.{distance}
+use Rattle.wire_detours.proofs.Vocabulary.{◌≡◌, ◌≢◌, ◌⊎◌, ℕ, zero, suc, ◌≤◌, [], ◌∷◌, All, take, replicate, inl, inr, ℤ, pos, ◌+ℤ◌, ◌≤ℤ◌, ◌<ℤ◌, refl, sym, ap, subst, arith, ints, by_lt_z, All-nil, All-cons, Point, distance, ArePadded, IsDrawn, ArePoints, HasDetour, origin, shown, bent, under, over, beside, round}
 use Rattle.cts_model.specs.declared.tree.Wire.{Wire}
-use Rattle.cts_model.specs.tree.DrawnWires.{ArePadded, IsDrawn}
-use Rattle.wire_detours.specs.WirePoints.{ArePoints, HasDetour, origin, shown, bent, under, over, beside, round}
 use Rattle.wire_detours.proofs.PieceLemmas.{apart_least, apart_more, apart_same}
 use Rattle.wire_detours.proofs.DetourLemmas.{distance_least}
 use Rattle.wire_detours.proofs.DrawnLemmas.{drawn_place, drawn_upright, drawn_level, drawn_bent, drawn_under, drawn_over, drawn_beside, drawn_round}
@@ -153,8 +147,7 @@ pub wire_shortest : (from to : Point) (long : ℤ) (wire : Wire) → long ≡ di
     → (from.x ≡ to.x → from.y ≡ to.y → wire ≡ shown 1 (from ∷ []))
     → (from.x ≡ to.x → from.y ≢ to.y → wire ≡ shown 2 (from ∷ to ∷ []))
     → (from.x ≢ to.x → from.y ≡ to.y → wire ≡ shown 2 (from ∷ to ∷ []))
-    → (from.x ≢ to.x → from.y ≢ to.y → wire ≡ shown 3 (bent from to))
-    → IsEdgeWire from to long wire
+    → (from.x ≢ to.x → from.y ≢ to.y → wire ≡ shown 3 (bent from to)) → IsEdgeWire from to long wire
 wire_shortest from to long wire is place upright level rotated =
     by_same from.x to.x
     (λ x. by_same from.y to.y
@@ -211,10 +204,8 @@ wire_over from to long by has x no_less = record {
 
 -- a detour along x, below or above
 pub wire_around : (from to : Point) (long by : ℤ) (wire : Wire) → HasDetour from to long by
-    → from.x ≢ to.x
-    → (from.y <ℤ to.y → wire ≡ shown 4 (under from to by))
-    → (to.y ≤ℤ from.y → wire ≡ shown 4 (over from to by))
-    → IsEdgeWire from to long wire
+    → from.x ≢ to.x → (from.y <ℤ to.y → wire ≡ shown 4 (under from to by))
+    → (to.y ≤ℤ from.y → wire ≡ shown 4 (over from to by)) → IsEdgeWire from to long wire
 wire_around from to long by wire has x low high =
     by_lt_z from.y to.y
     (λ less. subst (IsEdgeWire from to long) (sym (low less))

@@ -1,5 +1,4 @@
-use Rattle.answer_texts.specs.ArrivalTexts.{arrival_line}
-use Rattle.report_text.proofs.LineLemmas.{more_lines}
+use Rattle.answer_texts.proofs.Vocabulary.{arrival_line, more_lines}
 use Rattle.answer_texts.proofs.arrivals.push_arrivals.Goals as goal
 
 pub loop-register-preserved : goal.loop-register-preserved

@@ -1,5 +1,4 @@
-use Rattle.answer_texts.specs.CornerTexts.{numbered_line_at}
-use Rattle.report_text.proofs.LineLemmas.{more_lines}
+use Rattle.answer_texts.proofs.Vocabulary.{numbered_line_at, more_lines}
 use Rattle.answer_texts.proofs.cornering.push_numbered.Goals as goal
 
 pub loop-place-preserved : goal.loop-place-preserved

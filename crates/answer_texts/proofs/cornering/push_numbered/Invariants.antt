@@ -1,7 +1,4 @@
-use Rattle.std.proofs.Common.{◌≡◌, ◌++◌, codes, length}
-use Rattle.cts_model.specs.text.PrintedLines.{line_of, text_of, count_line}
-use Rattle.cts_model.specs.report.ReportLines.{lines_below}
-use Rattle.answer_texts.specs.CornerTexts.{numbered_line_at}
+use Rattle.answer_texts.proofs.Vocabulary.{◌≡◌, ◌++◌, codes, length, line_of, text_of, count_line, lines_below, numbered_line_at}
 use Rattle.answer_texts.proofs.cornering.push_numbered.Given as goal
 
 -- the count, and the constraints so far

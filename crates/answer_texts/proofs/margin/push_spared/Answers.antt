@@ -1,6 +1,4 @@
-use Rattle.std.proofs.Common.{◌≡◌, ◌∙◌, ◌++◌, ◌∷◌, [], OnOk, ap, append_assoc, codes, length, subst}
-use Rattle.cts_model.specs.text.PrintedLines.{line_of, text_of}
-use Rattle.answer_texts.specs.ArrivalTexts.{all_at_zero, arrival_lines}
+use Rattle.answer_texts.proofs.Vocabulary.{◌≡◌, ◌∙◌, ◌++◌, ◌∷◌, [], OnOk, ap, append_assoc, codes, length, subst, line_of, text_of, all_at_zero, arrival_lines}
 use Rattle.answer_texts.proofs.ArrivalLemmas.{small_can_print}
 use Rattle.answer_texts.proofs.CycleRegisters.{cycle_among}
 use Rattle.answer_texts.proofs.margin.push_spared.Goals as goal

@@ -1,5 +1,4 @@
-use Rattle.report_text.proofs.LineLemmas.{more_lines}
-use Rattle.answer_texts.specs.ScheduleTexts.{register_line_at}
+use Rattle.answer_texts.proofs.Vocabulary.{more_lines, register_line_at}
 use Rattle.answer_texts.proofs.registers.push_registers.Goals as goal
 
 pub loop-register-preserved : goal.loop-register-preserved

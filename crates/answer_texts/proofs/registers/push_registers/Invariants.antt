@@ -1,7 +1,4 @@
-use Rattle.std.proofs.Common.{◌≡◌, ◌++◌, codes, length}
-use Rattle.cts_model.specs.text.PrintedLines.{line_of, text_of, count_line}
-use Rattle.cts_model.specs.report.ReportLines.{lines_below}
-use Rattle.answer_texts.specs.ScheduleTexts.{register_line_at}
+use Rattle.answer_texts.proofs.Vocabulary.{◌≡◌, ◌++◌, codes, length, line_of, text_of, count_line, lines_below, register_line_at}
 use Rattle.answer_texts.proofs.registers.push_registers.Given as goal
 
 -- the count, and the registers so far

@@ -1,7 +1,5 @@
-use Rattle.std.proofs.Common.{◌+ℤ◌, ◌-ℤ◌, codes, arith}
-use Rattle.std.proofs.lemmas.Int.{ints}
+use Rattle.answer_texts.proofs.Vocabulary.{◌+ℤ◌, ◌-ℤ◌, codes, arith, ints, pair_from, pair_to}
 use Rattle.answer_texts.proofs.LineLemmas.{weight_line}
-use Rattle.cts_model.proofs.PathRegisters.{pair_from, pair_to}
 use Rattle.answer_texts.proofs.zero.push_reason.Goals as goal
 
 pub push_constraint-requires-clause-launch : goal.push_constraint-requires-clause-launch

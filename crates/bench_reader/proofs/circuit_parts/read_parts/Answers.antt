@@ -1,8 +1,5 @@
 -- What is said is taken in one after the other.
-use Rattle.std.proofs.Common.{◌∙◌, Some, inl, inr, sym, ap, arith}
-use Rattle.std.proofs.lemmas.Result.{err_from_is_err_and}
-use Rattle.std.proofs.lemmas.List.{drop_all}
-use Rattle.bench_reader.specs.Said.{kept_of}
+use Rattle.bench_reader.proofs.Vocabulary.{◌∙◌, Some, inl, inr, sym, ap, arith, err_from_is_err_and, drop_all, kept_of}
 use Rattle.bench_reader.proofs.PartWalk.{all_denoted, denotes_next, denotes_none, few_so_far, has_kind_next, kept_length, left_next, undefined_next}
 use Rattle.bench_reader.proofs.circuit_parts.read_parts.Goals as goal
 

@@ -1,5 +1,4 @@
-use Rattle.std.proofs.Common.{drop}
-use Rattle.bench_reader.specs.Said.{kept_of}
+use Rattle.bench_reader.proofs.Vocabulary.{drop, kept_of}
 use Rattle.bench_reader.proofs.PartWalk.{DenotesPassed}
 use Rattle.bench_reader.proofs.circuit_parts.read_parts.Given as goal
 

@@ -1,6 +1,4 @@
-use Rattle.std.proofs.Common.{◌≡◌, ◌<◌, ◌+◌, ◌^◌, length}
-use Rattle.std.specs.Option.{option_map}
-use Rattle.cts_model.specs.netlist.Statements.{more_inputs_of}
+use Rattle.bench_reader.proofs.Vocabulary.{◌≡◌, ◌<◌, ◌+◌, ◌^◌, length, option_map, more_inputs_of}
 use Rattle.bench_reader.specs.Tallies.{with_names}
 use Rattle.bench_reader.proofs.input_list.tally_more.Given as goal
 

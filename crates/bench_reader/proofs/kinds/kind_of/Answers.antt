@@ -1,10 +1,6 @@
-use Rattle.std.proofs.Common.{◌≡◌, List, ℕ, Bor, rules, tests, ap, ◌∙◌}
-use Rattle.std.specs.List.{find}
-use Rattle.std.specs.Option.{option_map}
-use Rattle.std.specs.Str.{str_eq_ignore_ascii_case}
+use Rattle.bench_reader.proofs.Vocabulary.{◌≡◌, List, ℕ, Bor, rules, tests, ap, ◌∙◌, find, option_map, str_eq_ignore_ascii_case, Kind}
 use Rattle.std.proofs.lemmas.Iterator.{YieldsList-from_slice}
 use Rattle.std.proofs.lemmas.Iterator.Search.{find_from_yields_List}
-use Rattle.cts_model.specs.declared.kind.Kind.{Kind}
 use Rattle.bench_reader.proofs.KindLemmas.{kind_at, kind_at-find}
 use Rattle.bench_reader.proofs.kinds.kind_of.Goals as goal
 

@@ -1,9 +1,4 @@
-use Rattle.std.proofs.Common.{◌≡◌, ◌<◌, ◌∙◌, inl, inr, length, refl, subst, arith}
-use Rattle.std.proofs.lemmas.Bool.Decides.{nat_tests}
-use Rattle.std.proofs.lemmas.Result.{err_from_is_err_and}
-use Rattle.cts_base.specs.LineFormats.{IsFaultOf, first_fault}
-use Rattle.bench_reader.specs.declared.fault.BenchFault.TheVariants.{NoMemory}
-use Rattle.bench_reader.specs.Faults.{use_fault}
+use Rattle.bench_reader.proofs.Vocabulary.{◌≡◌, ◌<◌, ◌∙◌, inl, inr, length, refl, subst, arith, nat_tests, err_from_is_err_and, IsFaultOf, first_fault, NoMemory, use_fault}
 use Rattle.bench_reader.proofs.DenotedCircuits.{no_registers, parts_circuit, parts_denoted, line_refused, use_refused}
 use Rattle.bench_reader.proofs.read.circuit_of_lines.Goals as goal
 

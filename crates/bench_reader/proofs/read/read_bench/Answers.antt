@@ -1,5 +1,4 @@
-use Rattle.std.proofs.Common.{sym, subst, All, ◌<◌, inl, inr, length}
-use Rattle.std.proofs.lemmas.Result.{err_from_is_err_and}
+use Rattle.bench_reader.proofs.Vocabulary.{sym, subst, All, ◌<◌, inl, inr, length, err_from_is_err_and}
 use Rattle.bench_reader.proofs.DenotedCircuits.{denoted_hostless}
 use Rattle.bench_reader.proofs.LoopSignals.{loop_within}
 use Rattle.bench_reader.proofs.read.read_bench.Goals as goal

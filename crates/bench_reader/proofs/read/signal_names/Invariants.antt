@@ -1,5 +1,4 @@
-use Rattle.std.proofs.Common.{◌≡◌, take}
-use Rattle.bench_reader.specs.Netlists.{names_of_signals}
+use Rattle.bench_reader.proofs.Vocabulary.{◌≡◌, take, names_of_signals}
 use Rattle.bench_reader.proofs.read.signal_names.Given as goal
 
 abbrev pub invariant-loop-number : goal.invariant-loop-number

@@ -1,7 +1,6 @@
 -- The table has for each byte whether it is one of a name.
-use Rattle.std.proofs.Common.{false, arith}
+use Rattle.bench_reader.proofs.Vocabulary.{false, arith, is_name_byte}
 use Rattle.std.proofs.lemmas.List.FromFn.{get_or-map-range_with_len}
-use Rattle.cts_model.specs.text.Names.{is_name_byte}
 use Rattle.bench_reader.proofs.token.is_name_byte.Goals as goal
 
 pub returns : goal.returns

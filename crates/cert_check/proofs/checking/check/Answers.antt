@@ -1,6 +1,4 @@
-use Rattle.std.proofs.Common.{rules}
-use Rattle.cert_check.specs.declared.verdict.Verdict.TheVariants.{Not}
-use Rattle.cert_check.specs.Verdicts.{IsVerdict}
+use Rattle.cert_check.proofs.Vocabulary.{rules, Not, IsVerdict}
 use Rattle.cert_check.proofs.JudgedLemmas.{shown_verdict, verdict_shown}
 use Rattle.cert_check.proofs.checking.check.Goals as goal
 

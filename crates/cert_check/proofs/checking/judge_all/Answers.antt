@@ -1,10 +1,5 @@
 -- What all before hold leaves to the next.
-use Rattle.std.proofs.Common.{◌≡◌, ◌*◌, length, inr, refl}
-use Rattle.cert_check.specs.declared.verdict.Reason.TheVariants.{TreeShape}
-use Rattle.cert_check.specs.declared.verdict.Verdict.TheVariants.{Shown}
-use Rattle.cert_check.specs.Judged.{Decides}
-use Rattle.cert_check.specs.JudgedReports.{JudgedPeriod, JudgedRest, JudgedTree, Shaped}
-use Rattle.cert_check.specs.Verdicts.{IsVerdictBy}
+use Rattle.cert_check.proofs.Vocabulary.{◌≡◌, ◌*◌, length, inr, refl, TreeShape, Shown, Decides, JudgedPeriod, JudgedRest, JudgedTree, Shaped, IsVerdictBy}
 use Rattle.cert_check.proofs.FirstPlaces.{passed_on}
 use Rattle.cert_check.proofs.JudgedLemmas.{decides_after, kept_shown, not_shown, period_then, stops_after, stops_places, tree_then}
 use Rattle.cert_check.proofs.checking.judge_all.Goals as goal

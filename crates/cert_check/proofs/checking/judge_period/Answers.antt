@@ -1,10 +1,5 @@
 -- What all before hold leaves to the next.
-use Rattle.std.proofs.Common.{◌≡◌, length, inr}
-use Rattle.cts_model.specs.report.Judgements.{GivesPeriod, IsFromFloor}
-use Rattle.cert_check.specs.declared.verdict.Reason.TheVariants.{BelowFloor, CycleValue, ScheduleMisses}
-use Rattle.cert_check.specs.declared.verdict.Verdict.TheVariants.{Shown}
-use Rattle.cert_check.specs.Judged.{Decides}
-use Rattle.cert_check.specs.JudgedReports.{JudgedPeriod, Meets}
+use Rattle.cert_check.proofs.Vocabulary.{◌≡◌, length, inr, GivesPeriod, IsFromFloor, BelowFloor, CycleValue, ScheduleMisses, Shown, Decides, JudgedPeriod, Meets}
 use Rattle.cert_check.proofs.FirstPlaces.{passed_on}
 use Rattle.cert_check.proofs.JudgedLemmas.{last_places, stops_once}
 use Rattle.cert_check.proofs.checking.judge_period.Goals as goal

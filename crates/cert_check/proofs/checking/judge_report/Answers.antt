@@ -1,11 +1,5 @@
 -- What the judge is made of is what the report has.
-use Rattle.std.proofs.Common.{◌≡◌, ◌≤◌, ◌^◌, All, length, subst, sym, ◌∙◌, arith}
-use Rattle.cts_model.specs.placement.Points.{IsUvBelow}
-use Rattle.cts_model.specs.report.ReportBounds.{HasSmallWeight, IsBetweenRegisters, cycle_length}
-use Rattle.cts_model.specs.report.Shown.{cycle_of, sinks_in}
-use Rattle.cert_check.specs.Judged.{Decides}
-use Rattle.cert_check.specs.SmallSinks.{IsSmallSink}
-use Rattle.cert_check.specs.Verdicts.{IsVerdictBy}
+use Rattle.cert_check.proofs.Vocabulary.{◌≡◌, ◌≤◌, ◌^◌, All, length, subst, sym, ◌∙◌, arith, IsUvBelow, HasSmallWeight, IsBetweenRegisters, cycle_length, cycle_of, sinks_in, Decides, IsSmallSink, IsVerdictBy}
 use Rattle.cert_check.proofs.JudgeFacts.{cycle_among, cycle_light, cycle_long, cycle_short}
 use Rattle.cert_check.proofs.ReachLemmas.{few_registers, sinks_count, small_sinks, source_small}
 use Rattle.cert_check.proofs.checking.judge_report.Goals as goal

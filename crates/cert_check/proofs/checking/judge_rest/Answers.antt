@@ -1,10 +1,5 @@
 -- What all before hold leaves to the next.
-use Rattle.std.proofs.Common.{◌≡◌, length, inr}
-use Rattle.cts_model.specs.declared.report.Version.TheVariants.{Second}
-use Rattle.cert_check.specs.declared.verdict.Reason.TheVariants.{NotLeast, PathBroken, SlackDiffers}
-use Rattle.cert_check.specs.declared.verdict.Verdict.TheVariants.{Shown}
-use Rattle.cert_check.specs.Judged.{Decides}
-use Rattle.cert_check.specs.JudgedReports.{Earliest, GivenPath, JudgedRest, Spares}
+use Rattle.cert_check.proofs.Vocabulary.{◌≡◌, length, inr, Second, NotLeast, PathBroken, SlackDiffers, Shown, Decides, Earliest, GivenPath, JudgedRest, Spares}
 use Rattle.cert_check.proofs.FirstPlaces.{passed_on}
 use Rattle.cert_check.proofs.JudgedLemmas.{last_places, stops_places}
 use Rattle.cert_check.proofs.checking.judge_rest.Goals as goal

@@ -1,10 +1,5 @@
 -- What all before hold leaves to the next.
-use Rattle.std.proofs.Common.{◌≡◌, ◌*◌, length, inr}
-use Rattle.cts_model.specs.tree.Embeddings.{total_wire}
-use Rattle.cert_check.specs.declared.verdict.Reason.TheVariants.{Total, Unshown}
-use Rattle.cert_check.specs.declared.verdict.Verdict.TheVariants.{Shown}
-use Rattle.cert_check.specs.Judged.{Decides}
-use Rattle.cert_check.specs.JudgedReports.{HasReach, JudgedTree, tree_of}
+use Rattle.cert_check.proofs.Vocabulary.{◌≡◌, ◌*◌, length, inr, total_wire, Total, Unshown, Shown, Decides, HasReach, JudgedTree, tree_of}
 use Rattle.cert_check.proofs.FirstPlaces.{passed_on}
 use Rattle.cert_check.proofs.JudgedLemmas.{last_once, stops_places}
 use Rattle.cert_check.proofs.checking.judge_tree.Goals as goal

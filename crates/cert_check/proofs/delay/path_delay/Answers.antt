@@ -1,6 +1,5 @@
 -- The delay is small.
-use Rattle.std.proofs.Common.{arith}
-use Rattle.std.proofs.lemmas.Grind.{common_steps}
+use Rattle.cert_check.proofs.Vocabulary.{arith, common_steps}
 use Rattle.cert_check.proofs.KeptNumbers.{kept_sum}
 use Rattle.cert_check.proofs.delay.path_delay.Goals as goal
 

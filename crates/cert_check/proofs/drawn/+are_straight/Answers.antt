@@ -1,5 +1,4 @@
-use Rattle.std.proofs.Common.{refl}
-use Rattle.cts_model.specs.tree.DrawnWires.{IsStraight}
+use Rattle.cert_check.proofs.Vocabulary.{refl, IsStraight}
 use Rattle.cert_check.proofs.WayLemmas.{all_pieces, not_all_pieces}
 use Rattle.cert_check.proofs.drawn.+are_straight.Goals as goal
 

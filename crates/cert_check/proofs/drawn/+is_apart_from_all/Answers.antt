@@ -1,6 +1,4 @@
-use Rattle.std.proofs.Common.{refl}
-use Rattle.cts_model.specs.tree.DrawnWires.{AreApart}
-use Rattle.cert_check.specs.DrawnParts.{piece}
+use Rattle.cert_check.proofs.Vocabulary.{refl, AreApart, piece}
 use Rattle.cert_check.proofs.WayLemmas.{all_pieces, not_all_pieces}
 use Rattle.cert_check.proofs.drawn.+is_apart_from_all.Goals as goal
 

@@ -1,6 +1,4 @@
-use Rattle.std.proofs.Common.{◌≡◌, ◌+ℤ◌, ◌∙◌, to_z, of_z, sym, arith}
-use mir.Syntax.{w128}
-use Rattle.std.proofs.lemmas.Int.{ints}
+use Rattle.cert_check.proofs.Vocabulary.{◌≡◌, ◌+ℤ◌, ◌∙◌, to_z, of_z, sym, arith, w128, ints}
 use Rattle.cert_check.proofs.WayLemmas.{distance_within, head, length-others, origin, total-more}
 use Rattle.cert_check.proofs.drawn.+length_through.Goals as goal
 

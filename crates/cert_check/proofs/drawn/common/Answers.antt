@@ -1,5 +1,4 @@
-use Rattle.std.proofs.Common.{arith}
-use Rattle.std.proofs.lemmas.Int.{ints, clamps}
+use Rattle.cert_check.proofs.Vocabulary.{arith, ints, clamps}
 use Rattle.cert_check.proofs.drawn.common.Goals as goal
 
 pub returns-clause-least : goal.returns-clause-least

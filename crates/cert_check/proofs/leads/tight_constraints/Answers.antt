@@ -1,7 +1,5 @@
 -- One lead more.
-use Rattle.std.proofs.Common.{◌++◌, ◌∷◌, [], get_or, ap, sym, ◌∙◌}
-use Rattle.cts_model.specs.declared.schedule.Lead.TheVariants.{Zero}
-use Rattle.cert_check.specs.TightLeads.{tight_constraints}
+use Rattle.cert_check.proofs.Vocabulary.{◌++◌, ◌∷◌, [], get_or, ap, sym, ◌∙◌, Zero, tight_constraints}
 use Rattle.cert_check.proofs.TightLemmas.{tight_more}
 use Rattle.cert_check.proofs.leads.tight_constraints.Goals as goal
 

@@ -1,6 +1,5 @@
 -- The constraints of the leads so far.
-use Rattle.std.proofs.Common.{◌≡◌, take}
-use Rattle.cert_check.specs.TightLeads.{tight_constraints}
+use Rattle.cert_check.proofs.Vocabulary.{◌≡◌, take, tight_constraints}
 use Rattle.cert_check.proofs.leads.tight_constraints.Given as goal
 
 abbrev pub invariant-loop-lead : goal.invariant-loop-lead

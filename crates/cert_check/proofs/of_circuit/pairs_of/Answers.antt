@@ -1,6 +1,5 @@
 -- Goals that `grind` closes at once, and that `search` tries for long.
-use Rattle.std.proofs.Common.{arith}
-use Rattle.std.proofs.lemmas.Grind.{common_steps}
+use Rattle.cert_check.proofs.Vocabulary.{arith, common_steps}
 use Rattle.cert_check.proofs.of_circuit.pairs_of.Goals as goal
 
 pub loop-constraint-preserved : goal.loop-constraint-preserved

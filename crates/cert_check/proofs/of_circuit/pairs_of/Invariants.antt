@@ -1,6 +1,5 @@
 -- The pairs of the constraints passed so far.
-use Rattle.std.proofs.Common.{◌≡◌, map, take}
-use Rattle.cert_check.specs.GivenConstraints.{pair_of}
+use Rattle.cert_check.proofs.Vocabulary.{◌≡◌, map, take, pair_of}
 use Rattle.cert_check.proofs.of_circuit.pairs_of.Given as goal
 
 abbrev pub invariant-loop-constraint : goal.invariant-loop-constraint

@@ -1,5 +1,4 @@
-use Rattle.std.proofs.Common.{arith}
-use Rattle.cts_model.proofs.TopologyLemmas.{merge_at, merge_here}
+use Rattle.cert_check.proofs.Vocabulary.{arith, merge_at, merge_here}
 use Rattle.cert_check.proofs.ParentLists.{parents_all, parents_more}
 use Rattle.cert_check.proofs.parents.parents_of.Goals as goal
 

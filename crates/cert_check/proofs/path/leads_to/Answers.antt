@@ -1,6 +1,5 @@
 -- Goals that `grind` closes at once, and that `search` tries for long.
-use Rattle.std.proofs.Common.{arith}
-use Rattle.std.proofs.lemmas.Grind.{common_steps}
+use Rattle.cert_check.proofs.Vocabulary.{arith, common_steps}
 use Rattle.cert_check.proofs.path.leads_to.Goals as goal
 
 pub returns-then-not-reads : goal.returns-then-not-reads

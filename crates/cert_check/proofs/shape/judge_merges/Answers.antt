@@ -1,6 +1,5 @@
 -- One merge more.
-use Rattle.std.proofs.Common.{◌≡◌, true, rules, arith}
-use Rattle.std.proofs.lemmas.Grind.{common_steps}
+use Rattle.cert_check.proofs.Vocabulary.{◌≡◌, true, rules, arith, common_steps}
 use Rattle.cert_check.proofs.MarkLemmas.{marks_more}
 use Rattle.cert_check.proofs.shape.judge_merges.Goals as goal
 

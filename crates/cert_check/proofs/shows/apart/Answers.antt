@@ -1,6 +1,5 @@
 -- The greater of two differences.
-use Rattle.std.proofs.Common.{arith}
-use Rattle.std.proofs.lemmas.Int.{ints, clamps}
+use Rattle.cert_check.proofs.Vocabulary.{arith, ints, clamps}
 use Rattle.cert_check.proofs.shows.apart.Goals as goal
 
 pub returns-clause-value : goal.returns-clause-value

@@ -1,6 +1,5 @@
 -- Twice a reach, and a span, as the code keeps them.
-use Rattle.std.proofs.Common.{arith}
-use Rattle.std.proofs.lemmas.Int.{ints}
+use Rattle.cert_check.proofs.Vocabulary.{arith, ints}
 use Rattle.cert_check.proofs.shows.is_half_of_span.Goals as goal
 
 pub returns : goal.returns

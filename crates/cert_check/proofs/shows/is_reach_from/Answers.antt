@@ -1,6 +1,5 @@
 -- A reach, and a distance with an offset, as the code keeps them.
-use Rattle.std.proofs.Common.{arith}
-use Rattle.std.proofs.lemmas.Int.{ints}
+use Rattle.cert_check.proofs.Vocabulary.{arith, ints}
 use Rattle.cert_check.proofs.shows.is_reach_from.Goals as goal
 
 pub returns : goal.returns

@@ -1,9 +1,5 @@
 -- One constraint more is added to both sums, and in the end they are compared as they are.
-use Rattle.std.proofs.Common.{◌+ℤ◌, ◌-ℤ◌, ◌*ℤ◌, ◌≤ℤ◌, pos, false, get_or, to_z, of_z, ◌∙◌, rules, arith}
-use Rattle.std.proofs.lemmas.Grind.{common_steps}
-use mir.Syntax.{w128}
-use Rattle.std.proofs.lemmas.Int.{ints, to_z-of_z}
-use Rattle.cts_model.specs.declared.constraint.Constraint.{Constraint}
+use Rattle.cert_check.proofs.Vocabulary.{◌+ℤ◌, ◌-ℤ◌, ◌*ℤ◌, ◌≤ℤ◌, pos, false, get_or, to_z, of_z, ◌∙◌, rules, arith, common_steps, w128, ints, to_z-of_z, Constraint}
 use Rattle.cert_check.proofs.SumLemmas.{sums_all, sums_next}
 use Rattle.cert_check.proofs.value.is_worth.Goals as goal
 

@@ -1,9 +1,6 @@
-use Rattle.std.proofs.Common.{◌≡◌, ◌∙◌, ap, map, string_bytes}
-use Rattle.clap.specs.Words.{kind_of, found_of}
+use Rattle.command_line.proofs.Vocabulary.{◌≡◌, ◌∙◌, ap, map, string_bytes, found_of, passed_up, choices_of, has_values}
+use Rattle.clap.specs.Words.{kind_of}
 use Rattle.clap.specs.declared.error.kind.ErrorKind.TheVariants.{OutOfMemory}
-use Rattle.clap.proofs.TakesLemmas.{passed_up}
-use Rattle.command_line.specs.CommandTable.{choices_of}
-use Rattle.command_line.specs.PlainWords.{has_values}
 use Rattle.command_line.proofs.PlainCommands.{has_values-plain, means_command}
 use Rattle.command_line.proofs.PlainWordTests.{plain_front}
 use Rattle.command_line.proofs.CommandParsers.{takes_words, finds_values}

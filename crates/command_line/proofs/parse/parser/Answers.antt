@@ -1,9 +1,6 @@
-use Rattle.std.proofs.Common.{◌∙◌, ap₂, sym}
+use Rattle.command_line.proofs.Vocabulary.{◌∙◌, ap₂, sym, new_app, with_rule, Choice, form_name, rule_for}
 use Rattle.std.proofs.lemmas.List.Sums.{fold_more}
-use Rattle.clap.specs.Words.{App, new_app, with_rule}
-use Rattle.command_line.specs.declared.table.Choice.{Choice}
-use Rattle.command_line.specs.CommandTable.{form_name}
-use Rattle.command_line.specs.Parsers.{rule_for}
+use Rattle.clap.specs.Words.{App}
 use Rattle.command_line.proofs.parse.parser.Goals as goal
 
 pub loop-choice-preserved : goal.loop-choice-preserved

@@ -1,7 +1,4 @@
-use Rattle.std.proofs.Common.{◌≡◌, take, fold}
-use Rattle.clap.specs.Words.{app_of, new_app, with_rule}
-use Rattle.command_line.specs.CommandTable.{form_name}
-use Rattle.command_line.specs.Parsers.{rule_for}
+use Rattle.command_line.proofs.Vocabulary.{◌≡◌, take, fold, app_of, new_app, with_rule, form_name, rule_for}
 use Rattle.command_line.proofs.parse.parser.Given as goal
 
 -- the parser has the options that were passed

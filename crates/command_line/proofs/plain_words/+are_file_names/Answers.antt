@@ -1,5 +1,4 @@
-use Rattle.std.proofs.Common.{string_bytes, sym, refl}
-use Rattle.command_line.specs.Commands.{is_file_name}
+use Rattle.command_line.proofs.Vocabulary.{string_bytes, sym, refl, is_file_name}
 use Rattle.command_line.proofs.PlainWordTests.{first_word, no_words}
 use Rattle.command_line.proofs.plain_words.+are_file_names.Goals as goal
 

@@ -1,7 +1,4 @@
-use Rattle.std.proofs.Common.{◌∙◌, ◌∷◌, ◌++◌, sym, ap, refl, string_bytes, map, true≢false}
-use Rattle.command_line.specs.CommandTable.{form_name}
-use Rattle.command_line.specs.Commands.{are_tables}
-use Rattle.command_line.specs.PlainWords.{are_plain}
+use Rattle.command_line.proofs.Vocabulary.{◌∙◌, ◌∷◌, ◌++◌, sym, ap, refl, string_bytes, map, true≢false, form_name, are_tables, are_plain}
 use Rattle.command_line.proofs.PlainCommands.{command_passes}
 use Rattle.command_line.proofs.PlainWordTests.{after_one, first_word, before_tables-map, tables_among-map, joined_tables}
 use Rattle.command_line.proofs.plain_words.plain_form.Goals as goal

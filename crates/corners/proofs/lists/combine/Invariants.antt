@@ -1,6 +1,5 @@
 -- The lists so far are combined.
-use Rattle.std.proofs.Common.{take}
-use Rattle.corners.specs.CornerConstraints.{IsCombined}
+use Rattle.corners.proofs.Vocabulary.{take, IsCombined}
 use Rattle.corners.proofs.lists.combine.Given as goal
 
 abbrev pub invariant-loop-corner : goal.invariant-loop-corner

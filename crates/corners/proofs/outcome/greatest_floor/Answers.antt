@@ -1,7 +1,5 @@
 -- A turn takes in one floor more.
-use Rattle.std.proofs.Common.{◌≡◌, ◌+◌, get_or, length, subst, sym, to_z, of_z, arith}
-use Rattle.std.specs.Int.{int_max, w128}
-use Rattle.std.proofs.lemmas.Int.{ints}
+use Rattle.corners.proofs.Vocabulary.{◌≡◌, ◌+◌, get_or, length, subst, sym, to_z, of_z, arith, int_max, w128, ints}
 use Rattle.corners.proofs.FloorLemmas.{IsGreatestSoFar, greatest_none, greatest_next, greatest_of_all, small_floor}
 use Rattle.corners.proofs.outcome.greatest_floor.Goals as goal
 

@@ -1,6 +1,5 @@
 -- The outcome of the combined list is that of all corners.
-use Rattle.std.proofs.Common.{◌∙◌}
-use Rattle.std.specs.Prelude.{nat_abs}
+use Rattle.corners.proofs.Vocabulary.{◌∙◌, nat_abs}
 use Rattle.corners.proofs.FloorLemmas.{kept_floor}
 use Rattle.corners.proofs.OutcomeLemmas.{common_arrivals, critical_of_corners, floor_shown, forbidding_of_corners, least_common, least_floor, none_where_forbidden, small_period, whole_period}
 use Rattle.corners.proofs.outcome.outcome.Goals as goal

@@ -1,7 +1,6 @@
 -- What the greatest ratio says of the period, and what each answer excludes.
-use Rattle.std.proofs.Common.{subst, sym, refl}
+use Rattle.critical_cycle.proofs.Vocabulary.{subst, sym, refl, HasSmallValue, IsPeriodOf}
 use Rattle.critical_cycle.proofs.PeriodLemmas.{floor_can_try, floor_exactly, floor_is, never_exactly, period_right, small_right}
-use Rattle.critical_cycle.specs.Periods.{HasSmallValue, IsPeriodOf}
 use Rattle.critical_cycle.proofs.period.least_period.Goals as goal
 
 pub greatest_ratio-requires-clause-first : goal.greatest_ratio-requires-clause-first

@@ -1,13 +1,5 @@
 -- What the cycle weighs and counts by its sums, and the value that they make.
-use Rattle.std.proofs.Common.{◌≡◌, ℕ, ℤ, pos, List, arith, to_z, of_z, refl, sym, true≢false, if◌then◌else◌, ◌-ℤ◌, ◌*ℤ◌, ◌≤◌, ◌^◌, length, All}
-use Rattle.std.proofs.lemmas.Int.{ints}
-use mir.Syntax.{w128}
-use Rattle.cts_model.specs.declared.constraint.Constraint.{Constraint}
-use Rattle.cts_model.specs.timing.Cycles.{total_count, total_weight}
-use Rattle.cts_model.specs.placement.Points.{IsBelow}
-use Rattle.critical_cycle.specs.declared.measure.Measure.{Measure}
-use Rattle.critical_cycle.specs.CyclePlaces.{AreWithin, constraints_at}
-use Rattle.critical_cycle.specs.Measures.{cycle_count, cycle_weight}
+use Rattle.critical_cycle.proofs.Vocabulary.{◌≡◌, ℕ, ℤ, pos, List, arith, to_z, of_z, refl, sym, true≢false, if◌then◌else◌, ◌-ℤ◌, ◌*ℤ◌, ◌≤◌, ◌^◌, length, All, ints, w128, Constraint, total_count, total_weight, IsBelow, Measure, AreWithin, constraints_at, cycle_count, cycle_weight}
 use Rattle.critical_cycle.proofs.PlaceLemmas.{length-constraints_at}
 use Rattle.critical_cycle.proofs.SumLemmas.{small_sums}
 use Rattle.critical_cycle.proofs.MeasureLemmas.{AreSmallIn, counted, most_small, small_in, weighed}

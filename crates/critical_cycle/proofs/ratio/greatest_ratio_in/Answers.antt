@@ -1,7 +1,5 @@
 -- The values are as many as before.
-use Rattle.std.proofs.Common.{◌≡◌, ◌∙◌, ap, subst, sym, pos, length}
-use Rattle.std.proofs.lemmas.List.{length-replicate}
-use Rattle.cts_model.specs.timing.Constraints.{AreSmallConstraints}
+use Rattle.critical_cycle.proofs.Vocabulary.{◌≡◌, ◌∙◌, ap, subst, sym, pos, length, length-replicate, AreSmallConstraints}
 use Rattle.critical_cycle.proofs.ratio.greatest_ratio_in.Goals as goal
 
 pub look_at_short_cycles-requires : goal.look_at_short_cycles-requires

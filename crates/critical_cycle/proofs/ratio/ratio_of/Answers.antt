@@ -1,7 +1,5 @@
 -- The cycle that is shown, from its lowest tail on.
-use Rattle.std.proofs.Common.{subst}
-use Rattle.critical_cycle.specs.ShownRatios.{IsSettled, IsShown}
-use Rattle.critical_cycle.specs.Searches.{last_cycle}
+use Rattle.critical_cycle.proofs.Vocabulary.{subst, IsSettled, IsShown, last_cycle}
 use Rattle.critical_cycle.proofs.RatioLemmas.{shown_rotated, forbidden_rotated}
 use Rattle.critical_cycle.proofs.ratio.ratio_of.Goals as goal
 

@@ -1,6 +1,5 @@
 -- Each raise leaves fewer.
-use Rattle.critical_cycle.specs.Searches.{IsSameSearch, IsSearch}
-use Rattle.critical_cycle.specs.ShownRatios.{raises_left}
+use Rattle.critical_cycle.proofs.Vocabulary.{IsSameSearch, IsSearch, raises_left}
 use Rattle.critical_cycle.proofs.ratio.settled.Given as goal
 
 abbrev pub invariant-loop-register : goal.invariant-loop-register

@@ -1,6 +1,5 @@
 -- Each step goes to a parent's tail; where it is back the ring is gone round.
-use Rattle.std.proofs.Common.{◌-◌, ◌∙◌, arith}
-use Rattle.std.proofs.lemmas.List.{length-set}
+use Rattle.critical_cycle.proofs.Vocabulary.{◌-◌, ◌∙◌, arith, length-set}
 use Rattle.critical_cycle.proofs.RoundWalk.{round_first, register_within, place_within, round_next, round_gone, gone_cycle, gone_gains}
 use Rattle.critical_cycle.proofs.ring.go_round.Goals as goal
 

@@ -1,6 +1,4 @@
-use Rattle.std.proofs.Common.{ℕ, ◌<◌, ◌≤◌, length}
-use Rattle.std.specs.Prelude.{slice_index}
-use Rattle.critical_cycle.specs.CyclePlaces.{tail_at}
+use Rattle.critical_cycle.proofs.Vocabulary.{ℕ, ◌<◌, ◌≤◌, length, slice_index, tail_at}
 use Rattle.critical_cycle.proofs.ring.place_of_lowest.Given as goal
 
 abbrev pub invariant-loop-place : goal.invariant-loop-place

@@ -1,6 +1,4 @@
-use Rattle.std.proofs.Common.{◌*ℤ◌, refl}
-use mir.Syntax.{w128}
-use Rattle.std.proofs.lemmas.Int.{to_z-of_z}
+use Rattle.critical_cycle.proofs.Vocabulary.{◌*ℤ◌, refl, w128, to_z-of_z}
 use Rattle.critical_cycle.proofs.ProductLemmas.{product_fits, product_small}
 use Rattle.critical_cycle.proofs.sums.product.Goals as goal
 

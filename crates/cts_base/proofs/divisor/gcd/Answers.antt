@@ -1,5 +1,4 @@
-use Rattle.std.proofs.Common.{rules}
-use Rattle.std.proofs.lemmas.Nat.Gcd.{IsGcd-from_zero, IsGcd-from_mod, le_of_dvd}
+use Rattle.cts_base.proofs.Vocabulary.{rules, IsGcd-from_zero, IsGcd-from_mod, le_of_dvd}
 use Rattle.cts_base.proofs.Divisors.{some_gcd}
 use Rattle.cts_base.proofs.divisor.gcd.Goals as goal
 

@@ -1,5 +1,4 @@
-use Rattle.std.proofs.Common.{ℕ}
-use Rattle.std.specs.Int.{IsGcd}
+use Rattle.cts_base.proofs.Vocabulary.{ℕ, IsGcd}
 use Rattle.cts_base.proofs.divisor.gcd.Given as goal
 
 -- the common divisors are those of the two numbers at the start

@@ -1,5 +1,4 @@
-use Rattle.std.proofs.Common.{arith}
-use Rattle.std.proofs.lemmas.Nat.Gcd.{IsGcd-from_zero, IsGcd-from_mod}
+use Rattle.cts_base.proofs.Vocabulary.{arith, IsGcd-from_zero, IsGcd-from_mod}
 use Rattle.cts_base.proofs.divisor.gcd_in_word.Goals as goal
 
 pub loop-y-preserved : goal.loop-y-preserved

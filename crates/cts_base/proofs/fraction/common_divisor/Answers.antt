@@ -1,6 +1,4 @@
-use Rattle.std.proofs.Common.{◌≡◌, nat_abs, to_z, arith}
-use mir.Syntax.{w128}
-use Rattle.std.proofs.lemmas.Int.{ints, to_z-of_z}
+use Rattle.cts_base.proofs.Vocabulary.{◌≡◌, nat_abs, to_z, arith, w128, ints, to_z-of_z}
 use Rattle.cts_base.proofs.fraction.common_divisor.Goals as goal
 
 pub returns-clause-greatest : goal.returns-clause-greatest

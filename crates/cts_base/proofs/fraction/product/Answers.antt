@@ -1,6 +1,4 @@
-use Rattle.std.proofs.Common.{◌^◌, ◌*ℤ◌, FitsSigned, refl, arith}
-use mir.Syntax.{w128}
-use Rattle.std.proofs.lemmas.Int.{ints, fits_signed_mul, to_z-of_z}
+use Rattle.cts_base.proofs.Vocabulary.{◌^◌, ◌*ℤ◌, FitsSigned, refl, arith, w128, ints, fits_signed_mul, to_z-of_z}
 use Rattle.cts_base.proofs.fraction.product.Goals as goal
 
 pub returns : goal.returns

@@ -1,6 +1,4 @@
-use Rattle.std.proofs.Common.{rules}
-use mir.Syntax.{w128}
-use Rattle.std.proofs.lemmas.Int.{to_z-of_z}
+use Rattle.cts_base.proofs.Vocabulary.{rules, w128, to_z-of_z}
 use Rattle.cts_base.proofs.GreatestDivisors.{quotient_text_is}
 use Rattle.cts_base.proofs.fraction.push_quotient.Goals as goal
 

@@ -1,7 +1,4 @@
-use Rattle.std.proofs.Common.{inl, inr, Ok, Err, refl, ap, ◌∙◌, subst}
-use Rattle.std.proofs.lemmas.Result.{err_from_is_err_and}
-use Rattle.cts_engine.proofs.OneProblem.{one_problem}
-use Rattle.cts_c.specs.Findings.{IsShownReport}
+use Rattle.cts_c.proofs.Vocabulary.{inl, inr, Ok, Err, refl, ap, ◌∙◌, subst, err_from_is_err_and, one_problem, IsShownReport}
 use Rattle.cts_c.proofs.checking.check_texts.Goals as goal
 
 pub returns-in_err-problem-clause-shown : goal.returns-in_err-problem-clause-shown

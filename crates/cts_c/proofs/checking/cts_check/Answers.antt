@@ -1,5 +1,4 @@
-use Rattle.std.proofs.Common.{inl, inr, refl, ap, ◌∙◌}
-use Rattle.cts_c.specs.Findings.{judged_status}
+use Rattle.cts_c.proofs.Vocabulary.{inl, inr, refl, ap, ◌∙◌, judged_status}
 use Rattle.cts_c.proofs.ResultLemmas.{error_alone, value_alone}
 use Rattle.cts_c.proofs.StatusLemmas.{is_judged, free_status, not_refused}
 use Rattle.cts_c.proofs.checking.cts_check.Goals as goal

@@ -1,6 +1,5 @@
-use Rattle.std.proofs.Common.{inl}
+use Rattle.cts_c.proofs.Vocabulary.{inl, ending_status}
 use Rattle.cts_c.specs.SynthTexts.{IsSynthText}
-use Rattle.answer_texts.specs.Endings.{ending_status}
 use Rattle.cts_c.proofs.StatusLemmas.{handed_text, large_text, has_text, text_status, not_refused}
 use Rattle.cts_c.proofs.synthesis.cts_synth.Goals as goal
 

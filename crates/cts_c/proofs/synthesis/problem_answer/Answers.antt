@@ -1,8 +1,5 @@
-use Rattle.std.proofs.Common.{subst, sym}
-use Rattle.std.proofs.lemmas.Result.{IfErr-weaker, IfOk-weaker, err_from_is_err_and}
-use Rattle.cts_model.specs.timing.PairLists.{JoinsMoreThan}
+use Rattle.cts_c.proofs.Vocabulary.{subst, sym, IfErr-weaker, IfOk-weaker, err_from_is_err_and, JoinsMoreThan, FailsFor}
 use Rattle.answer_texts.proofs.OutcomeTexts.{made_with}
-use Rattle.cts_c.specs.Refusals.{FailsFor}
 use Rattle.cts_c.proofs.RefusalLemmas.{many_pairs}
 use Rattle.cts_c.proofs.synthesis.problem_answer.Goals as goal
 

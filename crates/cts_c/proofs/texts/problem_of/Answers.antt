@@ -1,6 +1,4 @@
-use Rattle.std.proofs.Common.{refl, ap}
-use Rattle.std.proofs.lemmas.Result.{err_from_is_err_and}
-use Rattle.cts_c.specs.Statuses.{refusal_failure}
+use Rattle.cts_c.proofs.Vocabulary.{refl, ap, err_from_is_err_and, refusal_failure}
 use Rattle.cts_c.proofs.ResultLemmas.{error_alone}
 use Rattle.cts_c.proofs.texts.problem_of.Goals as goal
 

@@ -1,5 +1,4 @@
-use Rattle.std.proofs.Common.{◌*◌, ◌∙◌, ap, sym, subst, arith}
-use Rattle.cts_engine.specs.ClockTrees.{IsMadeTree}
+use Rattle.cts_engine.proofs.Vocabulary.{◌*◌, ◌∙◌, ap, sym, subst, arith, IsMadeTree}
 use Rattle.cts_engine.proofs.clock_tree.placed.Goals as goal
 
 pub returns : goal.returns

@@ -1,11 +1,5 @@
-use Rattle.std.proofs.Common.{◌≡◌, ◌∙◌, length, pos, slice_index_or, to_z, of_z, ap, sym, subst, arith}
-use mir.Syntax.{w128}
-use Rattle.std.proofs.lemmas.Int.{ints}
-use Rattle.cts_model.specs.tree.Embeddings.{Embedding, IsLeastWire, embedding_of, total_length, total_wire}
-use Rattle.cts_model.specs.tree.Topologies.{source_of}
-use Rattle.cts_model.proofs.TreeLemmas.{shown_reaches_are_least}
+use Rattle.cts_engine.proofs.Vocabulary.{◌≡◌, ◌∙◌, length, pos, slice_index_or, to_z, of_z, ap, sym, subst, arith, w128, ints, Embedding, IsLeastWire, embedding_of, total_length, total_wire, source_of, shown_reaches_are_least, reach_in}
 use Rattle.cts_model.proofs.TotalLemmas.{total_within}
-use Rattle.place_down.specs.Trees.{reach_in}
 use Rattle.cts_engine.proofs.TreeBounds.{are_shown, can_draw, lengths_small}
 use Rattle.cts_engine.proofs.clock_tree.tree_with.Goals as goal
 

@@ -1,5 +1,4 @@
-use Rattle.std.proofs.Common.{◌≡◌, take}
-use Rattle.critical_cycle.specs.CyclePlaces.{constraints_at}
+use Rattle.cts_engine.proofs.Vocabulary.{◌≡◌, take, constraints_at}
 use Rattle.cts_engine.proofs.period.constraints_at.Given as goal
 
 abbrev pub invariant-loop-place : goal.invariant-loop-place

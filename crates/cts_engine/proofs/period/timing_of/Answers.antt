@@ -1,7 +1,4 @@
-use Rattle.std.proofs.Common.{◌≡◌, ◌∙◌, to_z, of_z, arith}
-use mir.Syntax.{w128}
-use Rattle.std.proofs.lemmas.Int.{ints}
-use Rattle.cts_engine.specs.PairConstraints.{AreConstraintsOf}
+use Rattle.cts_engine.proofs.Vocabulary.{◌≡◌, ◌∙◌, to_z, of_z, arith, w128, ints, AreConstraintsOf}
 use Rattle.cts_engine.proofs.DelayLemmas.{small_pairs}
 use Rattle.cts_engine.proofs.OutcomeLemmas.{forbidden_by_cycle, least_of_circuit, shown_by_cycle, whole_fraction}
 use Rattle.cts_engine.proofs.period.timing_of.Goals as goal

@@ -1,6 +1,4 @@
-use Rattle.std.proofs.Common.{◌∙◌}
-use Rattle.std.specs.Prelude.{nat_abs}
-use Rattle.outcomes.specs.declared.period.PeriodOutcome.TheVariants.{Never}
+use Rattle.cts_engine.proofs.Vocabulary.{◌∙◌, nat_abs, Never}
 use Rattle.cts_engine.proofs.ArrivalLemmas.{admitted_by}
 use Rattle.cts_engine.proofs.OutcomeLemmas.{least_arrivals, never_exactly}
 use Rattle.cts_engine.proofs.scheduling.schedule_of.Goals as goal

@@ -1,6 +1,4 @@
-use Rattle.std.proofs.Common.{◌∙◌, arith}
-use Rattle.std.proofs.lemmas.Int.{ints}
-use Rattle.cts_model.proofs.GridLemmas.{number_read}
+use Rattle.cts_engine.proofs.Vocabulary.{◌∙◌, arith, ints, number_read}
 use Rattle.cts_engine.proofs.SessionLemmas.{moved_stands}
 use Rattle.cts_engine.proofs.session.move_register.Goals as goal
 

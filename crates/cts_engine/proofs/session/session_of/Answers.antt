@@ -1,10 +1,4 @@
-use Rattle.std.proofs.Common.{◌≤◌, ◌^◌, ◌∙◌, ap, sym, subst, arith}
-use Rattle.std.specs.Prelude.{nat_abs, unsigned_abs}
-use Rattle.std.proofs.lemmas.Int.{ints}
-use Rattle.cts_model.specs.table.Tables.{IsWithin}
-use Rattle.cts_model.proofs.GridLemmas.{grid_size, number_read}
-use Rattle.cts_engine.specs.SinkOutcomes.{AreTimedSinks}
-use Rattle.outcomes.specs.declared.period.PeriodOutcome.TheVariants.{Never}
+use Rattle.cts_engine.proofs.Vocabulary.{◌≤◌, ◌^◌, ◌∙◌, ap, sym, subst, arith, nat_abs, unsigned_abs, ints, IsWithin, grid_size, number_read, AreTimedSinks, Never}
 use Rattle.cts_engine.proofs.OutcomeLemmas.{never_exactly}
 use Rattle.cts_engine.proofs.SessionLemmas.{grid_within, session_is}
 use Rattle.cts_engine.proofs.SinkLemmas.{tree_source}

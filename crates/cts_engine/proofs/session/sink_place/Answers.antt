@@ -1,7 +1,4 @@
-use Rattle.std.proofs.Common.{◌^◌, ◌∙◌, ◌*ℤ◌, ap, sym, subst, arith}
-use Rattle.std.proofs.lemmas.Int.{ints}
-use Rattle.cts_model.specs.placement.Points.{IsUvBelow, IsUvMultipleOf, rotated}
-use Rattle.cts_model.proofs.GridLemmas.{number_read}
+use Rattle.cts_engine.proofs.Vocabulary.{◌^◌, ◌∙◌, ◌*ℤ◌, ap, sym, subst, arith, ints, IsUvBelow, IsUvMultipleOf, rotated, number_read}
 use Rattle.cts_engine.proofs.SessionLemmas.{kept_place}
 use Rattle.cts_engine.proofs.SinkLemmas.{rotated_below, rotated_multiple}
 use Rattle.cts_engine.proofs.session.sink_place.Goals as goal

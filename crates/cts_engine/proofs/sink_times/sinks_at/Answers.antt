@@ -1,9 +1,4 @@
-use Rattle.std.proofs.Common.{◌≡◌, ◌^◌, ◌∙◌, length, refl, sym, subst, arith}
-use Rattle.std.specs.List.{All}
-use Rattle.cts_model.specs.placement.Points.{IsBelow}
-use Rattle.cts_model.specs.tree.Problems.{sinks_of}
-use Rattle.cts_model.specs.tree.Sinks.{AreTreeSinks}
-use Rattle.cts_model.proofs.SkewLemmas.{length-sinks_of}
+use Rattle.cts_engine.proofs.Vocabulary.{◌≡◌, ◌^◌, ◌∙◌, length, refl, sym, subst, arith, All, IsBelow, sinks_of, AreTreeSinks, length-sinks_of}
 use Rattle.cts_engine.proofs.CycleLengths.{few_registers}
 use Rattle.cts_engine.proofs.SinkLemmas.{tree_sinks}
 use Rattle.cts_engine.proofs.TimingBounds.{arrivals_small}

@@ -1,8 +1,4 @@
-use Rattle.std.proofs.Common.{◌≡◌, ◌≤◌, ◌^◌, ◌∙◌, to_z, of_z, ap, refl, arith}
-use Rattle.std.specs.Prelude.{unsigned_abs}
-use mir.Syntax.{w128}
-use Rattle.std.proofs.lemmas.Int.{ints}
-use Rattle.cts_model.proofs.GridLemmas.{grid_size, number_read}
+use Rattle.cts_engine.proofs.Vocabulary.{◌≡◌, ◌≤◌, ◌^◌, ◌∙◌, to_z, of_z, ap, refl, arith, unsigned_abs, w128, ints, grid_size, number_read}
 use Rattle.cts_engine.proofs.ReportLemmas.{is_report}
 use Rattle.cts_engine.proofs.SinkLemmas.{tree_source}
 use Rattle.cts_engine.proofs.synthesis.report_with.Goals as goal

@@ -1,6 +1,4 @@
-use Rattle.std.proofs.Common.{◌≤◌, ◌∙◌, subst, arith}
-use Rattle.std.specs.Prelude.{nat_abs}
-use Rattle.cts_model.specs.timing.Leads.{depth_of, lead_at}
+use Rattle.cts_engine.proofs.Vocabulary.{◌≤◌, ◌∙◌, subst, arith, nat_abs, depth_of, lead_at}
 use Rattle.cts_engine.proofs.ArrivalLemmas.{admitted_by, leads_of_circuit, tree_arrivals}
 use Rattle.cts_engine.proofs.CycleLengths.{few_registers}
 use Rattle.cts_engine.proofs.OutcomeLemmas.{least_arrivals}

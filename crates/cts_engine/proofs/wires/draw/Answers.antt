@@ -1,9 +1,4 @@
-use Rattle.std.proofs.Common.{◌≡◌, to_z, of_z, take, arith}
-use mir.Syntax.{w128}
-use Rattle.std.proofs.lemmas.Int.{ints}
-use Rattle.cts_model.specs.tree.Embeddings.{Embedding, embedding_of}
-use Rattle.cts_model.proofs.PointLemmas.{distance_from_zero}
-use Rattle.cts_engine.specs.TreeParts.{IsWireOf}
+use Rattle.cts_engine.proofs.Vocabulary.{◌≡◌, to_z, of_z, take, arith, w128, ints, Embedding, embedding_of, distance_from_zero, IsWireOf}
 use Rattle.cts_engine.proofs.WireLemmas.{drawn_below}
 use Rattle.cts_engine.proofs.wires.draw.Goals as goal
 

@@ -1,6 +1,4 @@
-use Rattle.std.proofs.Common.{length, inl, inr, refl, ap, subst, sym, arith}
-use Rattle.cts_model.proofs.ParentLemmas.{made_parent}
-use Rattle.cts_engine.specs.TreeParts.{CanDrawEdge}
+use Rattle.cts_engine.proofs.Vocabulary.{length, inl, inr, refl, ap, subst, sym, arith, made_parent, CanDrawEdge}
 use Rattle.cts_engine.proofs.DrawLemmas.{all_drawn, drawn_all, drawn_more, drawn_small, joined_low, read_merge, root_low, root_parent}
 use Rattle.cts_engine.proofs.wires.wires_of.Goals as goal
 

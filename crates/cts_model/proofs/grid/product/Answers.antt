@@ -1,8 +1,5 @@
 -- A product of numbers below 10^20 and 10^16 is below 10^37.
-use Rattle.std.proofs.Common.{◌^◌, subst, sym, arith}
-use mir.Syntax.{w128}
-use Rattle.std.proofs.lemmas.Int.{ints, to_z-of_z}
-use Rattle.cts_model.specs.placement.Points.{IsBelow}
+use Rattle.cts_model.proofs.Vocabulary.{◌^◌, subst, sym, arith, w128, ints, to_z-of_z, IsBelow}
 use Rattle.cts_model.proofs.ProductLemmas.{product_kept, product_small}
 use Rattle.cts_model.proofs.grid.product.Goals as goal
 

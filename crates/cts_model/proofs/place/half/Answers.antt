@@ -1,6 +1,5 @@
 -- Half of an even number is what the code gives.
-use Rattle.std.proofs.Common.{arith}
-use Rattle.std.proofs.lemmas.Int.{ints}
+use Rattle.cts_model.proofs.Vocabulary.{arith, ints}
 use Rattle.cts_model.proofs.PointLemmas.{halves}
 use Rattle.cts_model.proofs.place.half.Goals as goal
 

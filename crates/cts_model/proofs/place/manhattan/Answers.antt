@@ -1,6 +1,5 @@
-use Rattle.std.proofs.Common.{FitsSigned, ◌∙◌, arith, rules}
+use Rattle.cts_model.proofs.Vocabulary.{FitsSigned, ◌∙◌, arith, rules, ints, to_z-of_z}
 use Rattle.std.specs.Int.{w128}
-use Rattle.std.proofs.lemmas.Int.{ints, to_z-of_z}
 use Rattle.cts_model.proofs.PointLemmas.{apart-rotated, sum_of_values}
 use Rattle.cts_model.proofs.place.manhattan.Goals as goal
 

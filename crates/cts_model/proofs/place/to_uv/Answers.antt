@@ -1,6 +1,4 @@
-use Rattle.std.proofs.Common.{◌≡◌, sym, subst, arith}
-use Rattle.std.proofs.lemmas.Int.{ints}
-use Rattle.cts_model.specs.placement.Points.{distance, rotated, rotated_distance}
+use Rattle.cts_model.proofs.Vocabulary.{◌≡◌, sym, subst, arith, ints, distance, rotated, rotated_distance}
 use Rattle.cts_model.proofs.PointLemmas.{apart-rotated, same_uv}
 use Rattle.cts_model.proofs.place.to_uv.Goals as goal
 

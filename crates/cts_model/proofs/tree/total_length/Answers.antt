@@ -1,5 +1,4 @@
-use Rattle.std.proofs.Common.{pos, slice_index_or, arith}
-use Rattle.std.proofs.lemmas.Int.{ints}
+use Rattle.cts_model.proofs.Vocabulary.{pos, slice_index_or, arith, ints}
 use Rattle.cts_model.proofs.TotalLemmas.{total_more, total_within}
 use Rattle.cts_model.proofs.tree.total_length.Goals as goal
 

@@ -1,5 +1,4 @@
-use Rattle.std.proofs.Common.{◌≡◌, pos, slice_index_or}
-use Rattle.cts_model.specs.tree.Embeddings.{total_length}
+use Rattle.cts_model.proofs.Vocabulary.{◌≡◌, pos, slice_index_or, total_length}
 use Rattle.cts_model.proofs.tree.total_length.Given as goal
 
 abbrev pub invariant-loop-length : goal.invariant-loop-length

@@ -1,5 +1,4 @@
-use Rattle.std.proofs.lemmas.Result.{IfErr-weaker, IfOk-weaker}
-use Rattle.answer_texts.proofs.OutcomeTexts.{embed_says}
+use Rattle.cts_program.proofs.Vocabulary.{IfErr-weaker, IfOk-weaker, embed_says}
 use Rattle.cts_program.proofs.StepLemmas.{memory_fails}
 use Rattle.cts_program.proofs.answers.embed.Goals as goal
 

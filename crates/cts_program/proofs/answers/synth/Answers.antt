@@ -1,5 +1,4 @@
-use Rattle.std.proofs.lemmas.Result.{IfErr-weaker, IfOk-weaker}
-use Rattle.answer_texts.proofs.OutcomeTexts.{made_with, synth_says}
+use Rattle.cts_program.proofs.Vocabulary.{IfErr-weaker, IfOk-weaker, made_with, synth_says}
 use Rattle.cts_program.proofs.StepLemmas.{memory_fails}
 use Rattle.cts_program.proofs.answers.synth.Goals as goal
 

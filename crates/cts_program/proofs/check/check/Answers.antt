@@ -1,5 +1,4 @@
-use Rattle.std.proofs.Common.{◌∙◌, inl, ap}
-use Rattle.failure_lines.specs.Refusals.{reason_failure_of}
+use Rattle.cts_program.proofs.Vocabulary.{◌∙◌, inl, ap, reason_failure_of}
 use Rattle.cts_program.proofs.ReasonLemmas.{reason_within}
 use Rattle.cts_program.proofs.check.check.Goals as goal
 

@@ -1,8 +1,5 @@
-use Rattle.std.proofs.Common.{[], ◌∷◌, refl}
-use Rattle.std.proofs.lemmas.Result.{err_from_is_err_and}
-use Rattle.command_line.specs.declared.command.Command.TheVariants.{Check}
+use Rattle.cts_program.proofs.Vocabulary.{[], ◌∷◌, refl, err_from_is_err_and, Check, problem_files, request_of}
 use Rattle.failure_lines.specs.declared.file_kind.FileKind.TheVariants as kinds
-use Rattle.cts_program.specs.Files.{problem_files, request_of}
 use Rattle.cts_program.proofs.CommandLemmas.{check_fails}
 use Rattle.cts_program.proofs.ReadLemmas.{read_more, unread_after}
 use Rattle.cts_program.proofs.ResultLemmas.{if_ok_from, if_err_from}

@@ -1,7 +1,4 @@
-use Rattle.std.proofs.Common.{[], sym, append-nil, arith}
-use Rattle.std.proofs.lemmas.Result.{err_from_is_err_and}
-use Rattle.command_line.specs.declared.command.Command.TheVariants.{Corners}
-use Rattle.cts_program.specs.Files.{files_of, request_of}
+use Rattle.cts_program.proofs.Vocabulary.{[], sym, append-nil, arith, err_from_is_err_and, Corners, files_of, request_of}
 use Rattle.cts_program.proofs.ResultLemmas.{if_ok_from}
 use Rattle.cts_program.proofs.StepLemmas.{step_counts, reading_fails, answered_circuit}
 use Rattle.cts_program.proofs.commands.corners_command.Goals as goal

@@ -1,7 +1,4 @@
-use Rattle.std.proofs.Common.{[], refl}
-use Rattle.std.proofs.lemmas.Result.{err_from_is_err_and}
-use Rattle.command_line.specs.declared.command.Command.TheVariants.{Margin}
-use Rattle.cts_program.specs.Files.{circuit_files, request_of}
+use Rattle.cts_program.proofs.Vocabulary.{[], refl, err_from_is_err_and, Margin, circuit_files, request_of}
 use Rattle.answer_texts.specs.MarginTexts.{IsMarginText}
 use Rattle.cts_program.proofs.StepLemmas.{step_counts, reading_fails, answered_circuit, says_done}
 use Rattle.cts_program.proofs.commands.margin_command.Goals as goal

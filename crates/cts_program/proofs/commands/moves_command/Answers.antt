@@ -1,8 +1,6 @@
-use Rattle.std.proofs.Common.{[], ◌∷◌, refl}
-use Rattle.std.proofs.lemmas.Result.{err_from_is_err_and}
+use Rattle.cts_program.proofs.Vocabulary.{[], ◌∷◌, refl, err_from_is_err_and, problem_files, request_of}
 use Rattle.command_line.specs.declared.command.Command.TheVariants.{Moves}
 use Rattle.failure_lines.specs.declared.file_kind.FileKind.TheVariants as kinds
-use Rattle.cts_program.specs.Files.{problem_files, request_of}
 use Rattle.cts_program.proofs.ReadLemmas.{read_more, unread_after}
 use Rattle.cts_program.proofs.StepLemmas.{step_fails, step_counts, reading_fails, reading_stops, answered_circuit}
 use Rattle.cts_program.proofs.commands.moves_command.Goals as goal

@@ -1,7 +1,5 @@
-use Rattle.std.proofs.Common.{[], refl}
-use Rattle.std.proofs.lemmas.Result.{err_from_is_err_and}
+use Rattle.cts_program.proofs.Vocabulary.{[], refl, err_from_is_err_and, circuit_files, request_of}
 use Rattle.command_line.specs.declared.command.Command.TheVariants.{Schedule}
-use Rattle.cts_program.specs.Files.{circuit_files, request_of}
 use Rattle.answer_texts.specs.ScheduleTexts.{IsScheduleText}
 use Rattle.cts_program.proofs.StepLemmas.{step_counts, reading_fails, answered_circuit, says_timed}
 use Rattle.cts_program.proofs.commands.schedule_command.Goals as goal

@@ -1,7 +1,4 @@
-use Rattle.std.proofs.Common.{[], refl}
-use Rattle.std.proofs.lemmas.Result.{err_from_is_err_and}
-use Rattle.command_line.specs.declared.command.Command.TheVariants.{Synth}
-use Rattle.cts_program.specs.Files.{problem_files, request_of}
+use Rattle.cts_program.proofs.Vocabulary.{[], refl, err_from_is_err_and, Synth, problem_files, request_of}
 use Rattle.cts_program.proofs.StepLemmas.{step_counts, reading_fails, answered_circuit}
 use Rattle.cts_program.proofs.commands.synth_command.Goals as goal
 

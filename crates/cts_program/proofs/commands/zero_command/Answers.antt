@@ -1,8 +1,4 @@
-use Rattle.std.proofs.Common.{[], None, Some, refl}
-use Rattle.std.proofs.lemmas.Result.{err_from_is_err_and}
-use Rattle.command_line.specs.declared.command.Command.TheVariants.{Zero}
-use Rattle.failure_lines.specs.declared.file_kind.FileKind.TheVariants.{Bench}
-use Rattle.cts_program.specs.Files.{circuit_files, request_of}
+use Rattle.cts_program.proofs.Vocabulary.{[], None, Some, refl, err_from_is_err_and, Zero, Bench, circuit_files, request_of}
 use Rattle.answer_texts.specs.ZeroTexts.{IsZeroText}
 use Rattle.cts_program.proofs.ReadLemmas.{none_read, read_more, unread_after}
 use Rattle.cts_program.proofs.StepLemmas.{step_fails, step_counts, reading_fails, reading_stops, answered_circuit, says_done}

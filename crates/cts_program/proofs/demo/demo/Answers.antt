@@ -1,8 +1,5 @@
-use Rattle.std.proofs.lemmas.Result.{err_from_is_err_and}
-use Rattle.std.proofs.Common.{inl, inr, refl}
+use Rattle.cts_program.proofs.Vocabulary.{err_from_is_err_and, inl, inr, refl, request_of, placed}
 use Rattle.command_line.specs.declared.table.Form.TheVariants as forms
-use Rattle.cts_program.specs.Files.{request_of}
-use Rattle.cts_program.specs.Told.{placed}
 use Rattle.cts_program.proofs.ResultLemmas.{if_ok_from, if_err_from}
 use Rattle.cts_program.proofs.StepLemmas.{few_told, circuit_fails}
 use Rattle.cts_program.proofs.demo.demo.Goals as goal

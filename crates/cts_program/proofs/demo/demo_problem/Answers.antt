@@ -1,6 +1,4 @@
-use Rattle.std.proofs.Common.{◌≡◌, ◌≤◌, ℕ, List, length, inl, inr, refl, ap, arith}
-use Rattle.std.proofs.lemmas.Result.{err_from_is_err_and}
-use Rattle.cts_program.specs.Files.{IsShortFile}
+use Rattle.cts_program.proofs.Vocabulary.{◌≡◌, ◌≤◌, ℕ, List, length, inl, inr, refl, ap, arith, err_from_is_err_and, IsShortFile}
 use Rattle.cts_program.proofs.ResultLemmas.{if_ok_from, if_err_from}
 use Rattle.cts_program.proofs.demo.demo_problem.Goals as goal
 

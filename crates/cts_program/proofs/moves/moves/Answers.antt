@@ -1,11 +1,5 @@
-use Rattle.std.proofs.Common.{◌≡◌, ◌^◌, length, to_z, of_z, sym, subst, arith}
-use mir.Syntax.{w128}
-use Rattle.std.specs.List.{All}
-use Rattle.std.proofs.lemmas.Int.{ints}
+use Rattle.cts_program.proofs.Vocabulary.{◌≡◌, ◌^◌, length, to_z, of_z, sym, subst, arith, w128, All, ints, IsGrid, IsSessionOf, IsWiresText, IsNearMove}
 use Rattle.cts_model.specs.table.Tables.{IsWithin}
-use Rattle.cts_engine.specs.SessionOutcomes.{IsGrid, IsSessionOf}
-use Rattle.answer_texts.specs.MoveTexts.{IsWiresText}
-use Rattle.cts_program.specs.MoveSteps.{IsNearMove}
 use Rattle.cts_program.proofs.WireTexts.{as_many_sinks}
 use Rattle.cts_program.proofs.moves.moves.Goals as goal
 

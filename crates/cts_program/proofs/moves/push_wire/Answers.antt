@@ -1,8 +1,4 @@
-use Rattle.std.proofs.Common.{◌≡◌, ◌++◌, ◌∙◌, to_z, of_z, arith}
-use mir.Syntax.{w128}
-use Rattle.std.proofs.lemmas.Int.{ints}
-use Rattle.cts_model.specs.text.PrintedLines.{line_of}
-use Rattle.report_text.specs.WireLines.{wire_line}
+use Rattle.cts_program.proofs.Vocabulary.{◌≡◌, ◌++◌, ◌∙◌, to_z, of_z, arith, w128, ints, line_of, wire_line}
 use Rattle.cts_program.proofs.moves.push_wire.Goals as goal
 
 pub returns : goal.returns

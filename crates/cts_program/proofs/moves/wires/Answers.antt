@@ -1,10 +1,4 @@
-use Rattle.std.proofs.Common.{◌≡◌, ◌∙◌, pos, take, get_or, to_z, of_z, refl, sym, subst, arith}
-use mir.Syntax.{w128}
-use Rattle.std.proofs.lemmas.Int.{ints}
-use Rattle.std.proofs.lemmas.List.{take_all, take_more}
-use Rattle.move_session.specs.declared.moves.Move.{Move}
-use Rattle.cts_engine.specs.SessionOutcomes.{IsSessionOf}
-use Rattle.cts_program.specs.MoveSteps.{AppendsWire}
+use Rattle.cts_program.proofs.Vocabulary.{◌≡◌, ◌∙◌, pos, take, get_or, to_z, of_z, refl, sym, subst, arith, w128, ints, take_all, take_more, Move, IsSessionOf, AppendsWire}
 use Rattle.cts_program.proofs.WireTexts.{AreWritten, session_stands, wires_first, wires_next, wires_text}
 use Rattle.cts_program.proofs.moves.wires.Goals as goal
 

@@ -1,6 +1,4 @@
-use Rattle.std.proofs.Common.{◌≡◌, length, take}
-use Rattle.cts_model.specs.declared.problem.Problem.{Problem}
-use Rattle.cts_engine.specs.SessionOutcomes.{IsSessionOf}
+use Rattle.cts_program.proofs.Vocabulary.{◌≡◌, length, take, Problem, IsSessionOf}
 use Rattle.cts_program.proofs.WireTexts.{AreWritten}
 use Rattle.cts_program.proofs.moves.wires.Given as goal
 

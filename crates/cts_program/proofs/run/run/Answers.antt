@@ -1,10 +1,4 @@
-use Rattle.std.proofs.Common.{◌≡◌, map, string_bytes, inl, sym, ◌∙◌, subst, arith, ap}
-use Rattle.failure_lines.specs.declared.failure.Failure.TheVariants.{ReadFault, WriteFault}
-use Rattle.failure_lines.specs.declared.file_kind.FileKind.{FileKind}
-use Rattle.failure_lines.specs.Failures.{status_of}
-use Rattle.answer_texts.specs.Endings.{ending_status}
-use Rattle.cts_program.specs.Answers.{IsStatusOf}
-use Rattle.cts_program.specs.Run.{DenotesText}
+use Rattle.cts_program.proofs.Vocabulary.{◌≡◌, map, string_bytes, inl, sym, ◌∙◌, subst, arith, ap, ReadFault, WriteFault, FileKind, status_of, ending_status, IsStatusOf, DenotesText}
 use Rattle.cts_program.proofs.OneDocument.{ReportLaws}
 use Rattle.cts_program.proofs.RunLemmas.{two_is_usage, usage_is_two, refusal_given, four_is_unread, five_is_unwritten, refused_status, accepted_status, lacks_text, denoted_status, denoted_never, denoted_found, denoted_fine, done_status, not_two, no_ending, fault_status}
 use Rattle.cts_program.proofs.SameRequests.{one_request}

@@ -1,7 +1,4 @@
-use Rattle.std.proofs.Common.{map, string_bytes, ap, refl, Err}
-use Rattle.std.proofs.lemmas.Result.{err_from_is_err_and}
-use Rattle.cts_program.specs.Files.{request_of}
-use Rattle.cts_program.specs.Run.{stops}
+use Rattle.cts_program.proofs.Vocabulary.{map, string_bytes, ap, refl, Err, err_from_is_err_and, request_of, stops}
 use Rattle.cts_program.proofs.RunLemmas.{no_usage, words_fail}
 use Rattle.cts_program.proofs.run.write_answer.Goals as goal
 

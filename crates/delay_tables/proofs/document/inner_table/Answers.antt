@@ -1,5 +1,4 @@
-use Rattle.std.proofs.Common.{◌∙◌}
-use Rattle.toml.proofs.Views.{table_get}
+use Rattle.delay_tables.proofs.Vocabulary.{◌∙◌, table_get}
 use Rattle.delay_tables.proofs.document.inner_table.Goals as goal
 
 pub returns-in-Some : goal.returns-in-Some

@@ -1,7 +1,4 @@
-use Rattle.std.proofs.Common.{◌∙◌, ap}
-use Rattle.toml.specs.Data.{get_member}
-use Rattle.std.specs.Option.{option_and_then}
-use Rattle.toml.proofs.Views.{table_get}
+use Rattle.delay_tables.proofs.Vocabulary.{◌∙◌, ap, get_member, option_and_then, table_get}
 use Rattle.delay_tables.proofs.document.value_at.Goals as goal
 
 pub returns-in-Some : goal.returns-in-Some

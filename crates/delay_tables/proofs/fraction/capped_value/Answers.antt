@@ -1,7 +1,4 @@
-use Rattle.std.proofs.Common.{◌≡◌, ◌-◌, nat_le, length, get_or, rules, arith}
-use Rattle.std.proofs.lemmas.Bool.{and_parts}
-use Rattle.std.specs.Char.{is_ascii_digit}
-use Rattle.std.specs.List.{list_all}
+use Rattle.delay_tables.proofs.Vocabulary.{◌≡◌, ◌-◌, nat_le, length, get_or, rules, arith, and_parts, is_ascii_digit, list_all}
 use Rattle.delay_tables.proofs.Fractions.{capped_more}
 use Rattle.delay_tables.proofs.fraction.capped_value.Goals as goal
 

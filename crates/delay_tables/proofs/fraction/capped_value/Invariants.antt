@@ -1,5 +1,4 @@
-use Rattle.std.proofs.Common.{◌≡◌, min, take}
-use Rattle.std.specs.Str.Parse.{digits_value}
+use Rattle.delay_tables.proofs.Vocabulary.{◌≡◌, min, take, digits_value}
 use Rattle.delay_tables.proofs.fraction.capped_value.Given as goal
 
 abbrev pub invariant-loop-digit : goal.invariant-loop-digit

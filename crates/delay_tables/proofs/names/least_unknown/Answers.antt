@@ -1,10 +1,5 @@
-use Rattle.std.proofs.Common.{◌≡◌, [], ◌∷◌, ◌∙◌, map, codes, ap}
-use Rattle.std.proofs.lemmas.Result.{IfOk-weaker}
-use Rattle.std.specs.List.{fold, flat_map}
-use Rattle.toml.specs.View.{table_view}
-use Rattle.cts_model.specs.table.TableKeys.{top_sections, gate_section, gate_kinds}
+use Rattle.delay_tables.proofs.Vocabulary.{◌≡◌, [], ◌∷◌, ◌∙◌, map, codes, ap, IfOk-weaker, fold, flat_map, table_view, top_sections, gate_section, gate_kinds, texts}
 use Rattle.cts_model.specs.table.TableFlaws as flaws
-use Rattle.delay_tables.specs.Keys.{texts}
 use Rattle.delay_tables.proofs.UnknownNames.{least_of_all}
 use Rattle.delay_tables.proofs.names.least_unknown.Goals as goal
 

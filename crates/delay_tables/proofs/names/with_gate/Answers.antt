@@ -1,6 +1,4 @@
-use Rattle.std.proofs.Common.{IfOk, ◌≡◌, subst, [], ◌∷◌, codes}
-use Rattle.std.specs.List.{fold}
-use Rattle.toml.specs.View.{table_view}
+use Rattle.delay_tables.proofs.Vocabulary.{IfOk, ◌≡◌, subst, [], ◌∷◌, codes, fold, table_view}
 use Rattle.cts_model.specs.table.TableKeys as tables
 use Rattle.cts_model.specs.table.TableFlaws as flaws
 use Rattle.delay_tables.proofs.names.with_gate.Goals as goal

@@ -1,6 +1,4 @@
-use Rattle.std.proofs.Common.{◌∙◌, ap, sym, map, ◌+◌, drop, arith}
-use Rattle.std.specs.List.{fold, flat_map}
-use Rattle.toml.specs.View.{table_view}
+use Rattle.delay_tables.proofs.Vocabulary.{◌∙◌, ap, sym, map, ◌+◌, drop, arith, fold, flat_map, table_view}
 use Rattle.cts_model.specs.table.TableFlaws as flaws
 use Rattle.cts_model.specs.table.TableKeys as tables
 use Rattle.delay_tables.proofs.UnknownNames.{least_more}

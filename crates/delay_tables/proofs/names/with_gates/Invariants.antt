@@ -1,6 +1,4 @@
-use Rattle.std.proofs.Common.{◌≡◌, drop, map}
-use Rattle.std.specs.List.{fold, flat_map}
-use Rattle.toml.specs.View.{table_view}
+use Rattle.delay_tables.proofs.Vocabulary.{◌≡◌, drop, map, fold, flat_map, table_view}
 use Rattle.cts_model.specs.table.TableFlaws as flaws
 use Rattle.cts_model.specs.table.TableKeys as tables
 use Rattle.delay_tables.proofs.names.with_gates.Given as goal

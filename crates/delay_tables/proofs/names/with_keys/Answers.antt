@@ -1,8 +1,5 @@
-use Rattle.std.proofs.Common.{IfOk, ◌≡◌, ◌∙◌, ap, subst}
-use Rattle.std.specs.List.{fold}
-use Rattle.toml.specs.View.{table_view}
+use Rattle.delay_tables.proofs.Vocabulary.{IfOk, ◌≡◌, ◌∙◌, ap, subst, fold, table_view, texts}
 use Rattle.cts_model.specs.table.TableFlaws as flaws
-use Rattle.delay_tables.specs.Keys.{texts}
 use Rattle.delay_tables.proofs.UnknownNames.{key_names_are}
 use Rattle.delay_tables.proofs.names.with_keys.Goals as goal
 

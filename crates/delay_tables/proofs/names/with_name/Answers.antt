@@ -1,6 +1,5 @@
-use Rattle.std.proofs.Common.{◌∙◌, sym, ap}
+use Rattle.delay_tables.proofs.Vocabulary.{◌∙◌, sym, ap, texts}
 use Rattle.cts_model.specs.table.TableFlaws as flaws
-use Rattle.delay_tables.specs.Keys.{texts}
 use Rattle.delay_tables.proofs.UnknownNames.{known_passed, unknown_taken}
 use Rattle.delay_tables.proofs.names.with_name.Goals as goal
 

@@ -1,8 +1,5 @@
-use Rattle.std.proofs.Common.{◌∙◌, ap, sym, map, ◌+◌, drop, arith}
-use Rattle.std.specs.List.{fold, flat_map}
-use Rattle.toml.specs.View.{table_view}
+use Rattle.delay_tables.proofs.Vocabulary.{◌∙◌, ap, sym, map, ◌+◌, drop, arith, fold, flat_map, table_view, section_of}
 use Rattle.cts_model.specs.table.TableFlaws as flaws
-use Rattle.delay_tables.specs.Keys.{section_of}
 use Rattle.delay_tables.proofs.UnknownNames.{least_more}
 use Rattle.delay_tables.proofs.names.with_sections.Goals as goal
 

@@ -1,8 +1,5 @@
-use Rattle.std.proofs.Common.{◌≡◌, drop, map}
-use Rattle.std.specs.List.{fold, flat_map}
-use Rattle.toml.specs.View.{table_view}
+use Rattle.delay_tables.proofs.Vocabulary.{◌≡◌, drop, map, fold, flat_map, table_view, section_of}
 use Rattle.cts_model.specs.table.TableFlaws as flaws
-use Rattle.delay_tables.specs.Keys.{section_of}
 use Rattle.delay_tables.proofs.names.with_sections.Given as goal
 
 abbrev pub invariant-loop-section : goal.invariant-loop-section

@@ -1,7 +1,5 @@
-use Rattle.std.proofs.Common.{ℕ, List, ◌∷◌, [], ◌∙◌, map, string_bytes, sym, ap, String, Global}
-use Rattle.std.specs.List.{fold}
+use Rattle.delay_tables.proofs.Vocabulary.{ℕ, List, ◌∷◌, [], ◌∙◌, map, string_bytes, sym, ap, String, Global, fold, texts}
 use Rattle.cts_model.specs.table.TableFlaws as flaws
-use Rattle.delay_tables.specs.Keys.{texts}
 use Rattle.delay_tables.proofs.UnknownNames.{names_of_keys, least_next}
 use Rattle.delay_tables.proofs.names.with_unknown_in.Goals as goal
 

@@ -1,7 +1,5 @@
-use Rattle.std.proofs.Common.{◌≡◌, map, string_bytes}
-use Rattle.std.specs.List.{fold}
+use Rattle.delay_tables.proofs.Vocabulary.{◌≡◌, map, string_bytes, fold, texts}
 use Rattle.cts_model.specs.table.TableFlaws as flaws
-use Rattle.delay_tables.specs.Keys.{texts}
 use Rattle.delay_tables.proofs.names.with_unknown_in.Given as goal
 
 abbrev pub invariant-loop-name : goal.invariant-loop-name

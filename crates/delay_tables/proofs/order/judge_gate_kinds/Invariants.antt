@@ -1,5 +1,4 @@
-use Rattle.std.proofs.Common.{◌≡◌, drop}
-use Rattle.toml.specs.View.{table_view}
+use Rattle.delay_tables.proofs.Vocabulary.{◌≡◌, drop, table_view}
 use Rattle.cts_model.specs.table.TableFlaws as flaws
 use Rattle.delay_tables.proofs.order.judge_gate_kinds.Given as goal
 

@@ -1,6 +1,4 @@
-use Rattle.std.proofs.Common.{◌∙◌, sym, arith}
-use Rattle.std.proofs.lemmas.Result.{err_from_is_err_and}
-use Rattle.toml.specs.View.{table_view}
+use Rattle.delay_tables.proofs.Vocabulary.{◌∙◌, sym, arith, err_from_is_err_and, table_view}
 use Rattle.cts_model.specs.table.TableFlaws as flaws
 use Rattle.delay_tables.proofs.Judgements.{fault_here, flaw_next, flaws_from}
 use Rattle.delay_tables.proofs.order.judge_gate_orders.Goals as goal

@@ -1,6 +1,4 @@
-use Rattle.std.proofs.Common.{refl}
-use Rattle.std.proofs.lemmas.Result.{err_from_is_err_and}
-use Rattle.toml.specs.View.{table_view}
+use Rattle.delay_tables.proofs.Vocabulary.{refl, err_from_is_err_and, table_view}
 use Rattle.cts_model.specs.table.TableFlaws as flaws
 use Rattle.cts_model.specs.table.TableKeys as tables
 use Rattle.delay_tables.proofs.Judgements.{fault_first, judges_next}

@@ -1,5 +1,4 @@
-use Rattle.std.proofs.lemmas.Result.{err_from_is_err_and}
-use Rattle.toml.specs.View.{table_view}
+use Rattle.delay_tables.proofs.Vocabulary.{err_from_is_err_and, table_view}
 use Rattle.delay_tables.proofs.FlawlessTables.{is_flawless}
 use Rattle.delay_tables.proofs.OneFault.{refuses_flaw}
 use Rattle.delay_tables.proofs.read.accepted_table.Goals as goal

@@ -1,6 +1,4 @@
-use Rattle.std.proofs.Common.{refl}
-use Rattle.std.proofs.lemmas.Result.{err_from_is_err_and}
-use Rattle.cts_model.specs.table.TableFlaws.{table_flaw}
+use Rattle.delay_tables.proofs.Vocabulary.{refl, err_from_is_err_and, table_flaw}
 use Rattle.delay_tables.proofs.Judgements.{fault_first, fault_next, judges_next}
 use Rattle.delay_tables.proofs.read.judge.Goals as goal
 

@@ -1,6 +1,4 @@
-use Rattle.std.proofs.lemmas.Result.{IfErr-weaker, IfOk-weaker}
-use Rattle.cts_model.specs.table.AcceptedTables.{AcceptsTable, GivesKinds}
-use Rattle.delay_tables.specs.Refusals.{RefusesTable, DenotesName}
+use Rattle.delay_tables.proofs.Vocabulary.{IfErr-weaker, IfOk-weaker, AcceptsTable, GivesKinds, RefusesTable, DenotesName}
 use Rattle.delay_tables.proofs.FlawlessTables.{gives_kinds}
 use Rattle.delay_tables.proofs.OneFault.{accepts_each, names_each, names_denoted}
 use Rattle.delay_tables.proofs.read.read_tech.Goals as goal

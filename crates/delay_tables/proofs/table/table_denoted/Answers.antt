@@ -1,8 +1,6 @@
-use Rattle.std.proofs.Common.{◌≡◌, [], ◌∷◌, codes, true}
-use Rattle.cts_model.specs.table.TableValues.{text_at, is_small_fraction}
+use Rattle.delay_tables.proofs.Vocabulary.{◌≡◌, [], ◌∷◌, codes, true, text_at, is_small_fraction, table_view}
 use Rattle.delay_tables.proofs.Fractions.{numerator_within, denominator_within}
 use Rattle.delay_tables.proofs.DenotedTables.{fraction_denoted, held, is_table}
-use Rattle.toml.specs.View.{table_view}
 use Rattle.delay_tables.proofs.FlawlessTables.{is_top_within}
 use Rattle.delay_tables.proofs.table.table_denoted.Goals as goal
 

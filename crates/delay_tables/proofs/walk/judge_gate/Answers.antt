@@ -1,8 +1,6 @@
-use Rattle.std.proofs.Common.{subst, [], ◌∷◌, codes}
-use Rattle.toml.specs.View.{table_view}
+use Rattle.delay_tables.proofs.Vocabulary.{subst, [], ◌∷◌, codes, table_view, Judges}
 use Rattle.cts_model.specs.table.TableKeys as tables
 use Rattle.cts_model.specs.table.TableFlaws as flaws
-use Rattle.delay_tables.specs.Refusals.{Judges}
 use Rattle.delay_tables.proofs.walk.judge_gate.Goals as goal
 
 pub returns : goal.returns

@@ -1,7 +1,4 @@
-use Rattle.std.proofs.Common.{◌∙◌, get_or, sym, arith}
-use Rattle.std.proofs.lemmas.Result.{err_from_is_err_and}
-use Rattle.toml.specs.View.{table_view}
-use Rattle.cts_model.specs.declared.kind.Kind.TheVariants.{And}
+use Rattle.delay_tables.proofs.Vocabulary.{◌∙◌, get_or, sym, arith, err_from_is_err_and, table_view, And}
 use Rattle.cts_model.specs.table.TableKeys as tables
 use Rattle.cts_model.specs.table.TableFlaws as flaws
 use Rattle.delay_tables.proofs.Judgements.{fault_here, flaws_more}

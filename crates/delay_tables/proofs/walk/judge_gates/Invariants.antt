@@ -1,5 +1,4 @@
-use Rattle.std.proofs.Common.{◌≡◌, drop, map}
-use Rattle.toml.specs.View.{table_view}
+use Rattle.delay_tables.proofs.Vocabulary.{◌≡◌, drop, map, table_view}
 use Rattle.cts_model.specs.table.TableFlaws as flaws
 use Rattle.cts_model.specs.table.TableKeys as tables
 use Rattle.delay_tables.proofs.walk.judge_gates.Given as goal

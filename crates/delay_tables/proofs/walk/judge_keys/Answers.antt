@@ -1,5 +1,4 @@
-use Rattle.std.proofs.lemmas.Result.{err_from_is_err_and}
-use Rattle.toml.specs.View.{table_view}
+use Rattle.delay_tables.proofs.Vocabulary.{err_from_is_err_and, table_view}
 use Rattle.delay_tables.proofs.Judgements.{fault_here, judges_next, flaws-sections}
 use Rattle.delay_tables.proofs.walk.judge_keys.Goals as goal
 

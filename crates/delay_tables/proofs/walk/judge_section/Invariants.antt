@@ -1,7 +1,5 @@
-use Rattle.std.proofs.Common.{◌≡◌, drop}
-use Rattle.toml.specs.View.{table_view}
+use Rattle.delay_tables.proofs.Vocabulary.{◌≡◌, drop, table_view, texts, keys_of}
 use Rattle.cts_model.specs.table.TableFlaws as flaws
-use Rattle.delay_tables.specs.Keys.{texts, keys_of}
 use Rattle.delay_tables.proofs.walk.judge_section.Given as goal
 
 abbrev pub invariant-loop-key : goal.invariant-loop-key

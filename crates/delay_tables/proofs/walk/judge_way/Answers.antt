@@ -1,6 +1,4 @@
-use Rattle.std.proofs.Common.{◌∙◌, sym, arith}
-use Rattle.std.proofs.lemmas.Result.{err_from_is_err_and}
-use Rattle.toml.specs.View.{table_view}
+use Rattle.delay_tables.proofs.Vocabulary.{◌∙◌, sym, arith, err_from_is_err_and, table_view}
 use Rattle.delay_tables.proofs.Judgements.{fault_here, flaw_next, way_more, way_all}
 use Rattle.delay_tables.proofs.walk.judge_way.Goals as goal
 

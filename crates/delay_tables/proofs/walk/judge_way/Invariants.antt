@@ -1,7 +1,5 @@
-use Rattle.std.proofs.Common.{◌≡◌, [], take, drop}
-use Rattle.toml.specs.View.{table_view}
+use Rattle.delay_tables.proofs.Vocabulary.{◌≡◌, [], take, drop, table_view, texts}
 use Rattle.cts_model.specs.table.TableFlaws as flaws
-use Rattle.delay_tables.specs.Keys.{texts}
 use Rattle.delay_tables.proofs.walk.judge_way.Given as goal
 
 abbrev pub invariant-loop-place : goal.invariant-loop-place

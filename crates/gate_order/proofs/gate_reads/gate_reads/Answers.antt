@@ -1,5 +1,4 @@
-use Rattle.std.proofs.Common.{◌≡◌, length, refl, arith}
-use Rattle.std.proofs.lemmas.Option.{slice_get_read}
+use Rattle.gate_order.proofs.Vocabulary.{◌≡◌, length, refl, arith, slice_get_read}
 use Rattle.gate_order.proofs.ReadLemmas.{AreReads-none, AreReads-more}
 use Rattle.gate_order.proofs.gate_reads.gate_reads.Goals as goal
 

@@ -1,6 +1,4 @@
-use Rattle.std.proofs.Common.{◌++◌, ◌∷◌, [], take, get_or, ap, sym, ◌∙◌}
-use Rattle.std.proofs.lemmas.List.{append_assoc}
-use Rattle.gate_order.specs.GateReads.{reads_among}
+use Rattle.gate_order.proofs.Vocabulary.{◌++◌, ◌∷◌, [], take, get_or, ap, sym, ◌∙◌, append_assoc, reads_among}
 use Rattle.gate_order.proofs.ReadLemmas.{reads_among_more}
 use Rattle.gate_order.proofs.gate_reads.push_reads.Goals as goal
 

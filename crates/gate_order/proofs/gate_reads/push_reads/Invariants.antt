@@ -1,5 +1,4 @@
-use Rattle.std.proofs.Common.{◌≡◌, ◌++◌, take}
-use Rattle.gate_order.specs.GateReads.{reads_among}
+use Rattle.gate_order.proofs.Vocabulary.{◌≡◌, ◌++◌, take, reads_among}
 use Rattle.gate_order.proofs.gate_reads.push_reads.Given as goal
 
 abbrev pub invariant-loop-input : goal.invariant-loop-input

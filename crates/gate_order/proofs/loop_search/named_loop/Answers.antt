@@ -1,6 +1,5 @@
 -- The walk goes on by an input that waits; a gate that comes again closes the ring.
-use Rattle.std.proofs.Common.{◌≡◌, ◌∙◌, arith}
-use Rattle.std.proofs.lemmas.List.{with_items_is}
+use Rattle.gate_order.proofs.Vocabulary.{◌≡◌, ◌∙◌, arith, with_items_is}
 use Rattle.gate_order.proofs.Walks.{mark_is, comes_again, walk_next, named_ring}
 use Rattle.gate_order.proofs.loop_search.named_loop.Goals as goal
 

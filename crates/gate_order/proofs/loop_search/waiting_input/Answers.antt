@@ -1,6 +1,5 @@
 -- A gate that waits has an input that waits, and the first one is found.
-use Rattle.std.proofs.Common.{◌≡◌, Some, sym, ◌∙◌}
-use Rattle.std.specs.Prelude.{find}
+use Rattle.gate_order.proofs.Vocabulary.{◌≡◌, Some, sym, ◌∙◌, find}
 use Rattle.gate_order.proofs.WaitingInputs.{waits, finds_input, found_input}
 use Rattle.gate_order.proofs.loop_search.waiting_input.Goals as goal
 

@@ -1,5 +1,4 @@
-use Rattle.std.proofs.Common.{◌≡◌, ◌<◌, length, ◌∙◌, arith}
-use Rattle.gate_order.specs.Grouped.{values_at}
+use Rattle.gate_order.proofs.Vocabulary.{◌≡◌, ◌<◌, length, ◌∙◌, arith, values_at}
 use Rattle.gate_order.proofs.SortSteps.{IsSorting-none, IsSorting-more, IsSorted-from_taken, can_release, next_within}
 use Rattle.gate_order.proofs.sorting.sorted.Goals as goal
 

@@ -1,5 +1,4 @@
-use Rattle.std.proofs.Common.{◌+◌, ◌-◌, length}
-use Rattle.gate_order.specs.Sorted.{waiting_count}
+use Rattle.gate_order.proofs.Vocabulary.{◌+◌, ◌-◌, length, waiting_count}
 use Rattle.gate_order.proofs.SortSteps.{IsSorting}
 use Rattle.gate_order.proofs.sorting.sorted.Given as goal
 

@@ -1,5 +1,4 @@
-use Rattle.std.proofs.Common.{◌≡◌, ◌+◌, ◌-◌, length, refl, subst, arith}
-use Rattle.merge_up.specs.Merging.{IsRenewed, KeepsEnds}
+use Rattle.merge_up.proofs.Vocabulary.{◌≡◌, ◌+◌, ◌-◌, length, refl, subst, arith, IsRenewed, KeepsEnds}
 use Rattle.merge_up.proofs.WorkLemmas.{joined_before, merged_next}
 use Rattle.merge_up.proofs.bottom_up.merge.Goals as goal
 

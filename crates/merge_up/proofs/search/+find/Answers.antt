@@ -1,8 +1,4 @@
-use Rattle.std.proofs.Common.{get_or, ◌∙◌, pos, inl, refl, sym, arith, rules}
-use Rattle.std.proofs.lemmas.Int.{ints, to_z-of_z}
-use Rattle.std.proofs.lemmas.Option.{slice_get-get_or}
-use Rattle.std.specs.Int.{w128}
-use Rattle.cts_model.specs.declared.place.Sink.{Sink}
+use Rattle.merge_up.proofs.Vocabulary.{get_or, ◌∙◌, pos, inl, refl, sym, arith, rules, ints, to_z-of_z, slice_get-get_or, w128, Sink}
 use Rattle.merge_up.proofs.SearchLemmas.{alone_so_far, below_neither, if_found, lower_than, order_joins, so_far_above, so_far_alone}
 use Rattle.merge_up.proofs.search.+find.Goals as goal
 

@@ -1,5 +1,4 @@
-use Rattle.std.proofs.Common.{◌≡◌, ◌+◌, ◌<◌, arith, length, refl, subst}
-use Rattle.merge_up.proofs.WorkLemmas.{joined_held}
+use Rattle.move_session.proofs.Vocabulary.{◌≡◌, ◌+◌, ◌<◌, arith, length, refl, subst, joined_held}
 use Rattle.move_session.proofs.StepsUp.{IsOnWay, on_way_first, on_way_next, way_counted}
 use Rattle.move_session.proofs.way_up.renew_above.Goals as goal
 

@@ -1,8 +1,4 @@
-use Rattle.std.proofs.Common.{◌≡◌, ◌+◌, ◌-◌, length, inl, inr, refl, subst, arith}
-use Rattle.cts_model.specs.tree.Topologies.{Joins}
-use Rattle.cts_model.proofs.TopologyLemmas.{merge_at, merge_here}
-use Rattle.merge_up.specs.Merging.{IsRenewed}
-use Rattle.move_session.specs.MergesAbove.{JoinsAt}
+use Rattle.move_session.proofs.Vocabulary.{◌≡◌, ◌+◌, ◌-◌, length, inl, inr, refl, subst, arith, Joins, merge_at, merge_here, IsRenewed, JoinsAt}
 use Rattle.move_session.proofs.way_up.renew_joining.Goals as goal
 use Rattle.move_session.proofs.way_up.renew_joining.Goals.{else-merge-node-via-then-merge-node+else-merge-node-2, else-merge-node-via-else-merge-node}
 

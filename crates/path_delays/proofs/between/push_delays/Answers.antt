@@ -1,8 +1,5 @@
 -- One pair more.
-use Rattle.std.proofs.Common.{◌∷◌, ◌++◌, [], take, get_or, append_assoc}
-use Rattle.std.proofs.lemmas.List.{take_more}
-use Rattle.std.proofs.lemmas.Option.{slice_get-get_or}
-use Rattle.path_delays.specs.JoinedPairs.{IsJoinedBy}
+use Rattle.path_delays.proofs.Vocabulary.{◌∷◌, ◌++◌, [], take, get_or, append_assoc, take_more, slice_get-get_or, IsJoinedBy}
 use Rattle.path_delays.proofs.BetweenLemmas.{between_push}
 use Rattle.path_delays.proofs.ReachedPairs.{captured_is_fan_in}
 use Rattle.path_delays.proofs.between.push_delays.Goals as goal

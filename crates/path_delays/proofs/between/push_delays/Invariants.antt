@@ -1,6 +1,5 @@
 -- The delays of the pairs passed so far.
-use Rattle.std.proofs.Common.{◌++◌, ℕ, List, take}
-use Rattle.path_delays.specs.JoinedPairs.{AreDelaysBetween}
+use Rattle.path_delays.proofs.Vocabulary.{◌++◌, ℕ, List, take, AreDelaysBetween}
 use Rattle.path_delays.proofs.between.push_delays.Given as goal
 
 abbrev pub invariant-loop-lane : goal.invariant-loop-lane

@@ -1,6 +1,5 @@
 -- One block more.
-use Rattle.std.proofs.Common.{arith, subst, take}
-use Rattle.path_delays.specs.JoinedPairs.{AreDelaysBetween}
+use Rattle.path_delays.proofs.Vocabulary.{arith, subst, take, AreDelaysBetween}
 use Rattle.path_delays.proofs.BetweenLemmas.{take_on}
 use Rattle.path_delays.proofs.between.walked_delays.Goals as goal
 

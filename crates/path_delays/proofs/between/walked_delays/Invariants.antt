@@ -1,7 +1,5 @@
 -- The delays of the pairs of the blocks passed so far.
-use Rattle.std.proofs.Common.{◌≤◌, ◌-◌, length, take}
-use Rattle.path_delays.specs.WalkParts.{IsRoomFor}
-use Rattle.path_delays.specs.JoinedPairs.{AreDelaysBetween}
+use Rattle.path_delays.proofs.Vocabulary.{◌≤◌, ◌-◌, length, take, IsRoomFor, AreDelaysBetween}
 use Rattle.path_delays.proofs.between.walked_delays.Given as goal
 
 abbrev pub invariant-loop-first : goal.invariant-loop-first

@@ -1,6 +1,5 @@
 -- One register more.
-use Rattle.std.proofs.Common.{◌<◌, length, get_or, arith, subst}
-use Rattle.path_delays.specs.Captured.{AreCapturedBelow}
+use Rattle.path_delays.proofs.Vocabulary.{◌<◌, length, get_or, arith, subst, AreCapturedBelow}
 use Rattle.path_delays.proofs.ReachedPairs.{captured_is_fan_in, captured_within}
 use Rattle.path_delays.proofs.CaptureLemmas.{none_captured, captured_more}
 use Rattle.path_delays.proofs.captures.captured_signals.Goals as goal

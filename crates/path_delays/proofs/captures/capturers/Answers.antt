@@ -1,7 +1,5 @@
 -- The pairs grouped by signal.
-use Rattle.std.proofs.lemmas.Result.{IfOk-weaker}
-use Rattle.gate_order.specs.GroupParts.{HasGroups}
-use Rattle.path_delays.specs.Captured.{AreCapturersOf}
+use Rattle.path_delays.proofs.Vocabulary.{IfOk-weaker, HasGroups, AreCapturersOf}
 use Rattle.path_delays.proofs.CaptureLemmas.{captures_grouped}
 use Rattle.path_delays.proofs.captures.capturers.Goals as goal
 

@@ -1,6 +1,5 @@
 -- Goals that `grind` closes at once, and that `search` tries for long.
-use Rattle.std.proofs.Common.{arith}
-use Rattle.std.proofs.lemmas.Grind.{common_steps}
+use Rattle.path_delays.proofs.Vocabulary.{arith, common_steps}
 use Rattle.path_delays.proofs.captures.push_captured.Goals as goal
 
 pub loop-signal-preserved : goal.loop-signal-preserved

@@ -1,6 +1,4 @@
-use Rattle.std.proofs.Common.{◌∙◌, arith, subst, sym}
-use Rattle.std.proofs.lemmas.Option.{same_Some}
-use Rattle.path_delays.specs.CyclePaths.{FitsRoom, pair_of}
+use Rattle.path_delays.proofs.Vocabulary.{◌∙◌, arith, subst, sym, same_Some, FitsRoom, pair_of}
 use Rattle.path_delays.proofs.CyclePathLemmas.{path_kept, without_room}
 use Rattle.path_delays.proofs.cycle_paths.path_within.Goals as goal
 

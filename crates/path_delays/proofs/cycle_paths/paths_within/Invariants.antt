@@ -1,6 +1,5 @@
 -- The paths of the blocks passed so far.
-use Rattle.std.proofs.Common.{◌≤◌, ◌-◌, length}
-use Rattle.path_delays.specs.WalkParts.{IsRoomFor}
+use Rattle.path_delays.proofs.Vocabulary.{◌≤◌, ◌-◌, length, IsRoomFor}
 use Rattle.path_delays.proofs.CyclePathLemmas.{AreEarlierPaths}
 use Rattle.path_delays.proofs.cycle_paths.paths_within.Given as goal
 

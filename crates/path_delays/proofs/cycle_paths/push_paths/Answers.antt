@@ -1,6 +1,5 @@
 -- One path more, and all of the block.
-use Rattle.std.proofs.Common.{arith}
-use Rattle.std.proofs.lemmas.Option.{slice_get-get_or}
+use Rattle.path_delays.proofs.Vocabulary.{arith, slice_get-get_or}
 use Rattle.path_delays.proofs.CyclePathLemmas.{keeps_all, keeps_next, keeps_none, pair_within}
 use Rattle.path_delays.proofs.cycle_paths.push_paths.Goals as goal
 

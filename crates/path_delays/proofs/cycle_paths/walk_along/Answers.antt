@@ -1,9 +1,5 @@
 -- The lanes have the sums along the paths of the constraints.
-use Rattle.std.proofs.Common.{◌≡◌, ◌<◌, ◌∙◌, ℕ, Some, length, take, get_or, ap, arith, inl, inr, subst, sym}
-use Rattle.std.proofs.lemmas.Bool.{cases_lt}
-use Rattle.std.proofs.lemmas.List.{length-set, length-take, get_or-set_other, get_or-set_same, get_or-take, get_or_default}
-use Rattle.std.proofs.lemmas.Option.{get_or_from_slice_get, slice_get-get_or, slice_get_within}
-use Rattle.path_delays.specs.CyclePaths.{pair_of}
+use Rattle.path_delays.proofs.Vocabulary.{◌≡◌, ◌<◌, ◌∙◌, ℕ, Some, length, take, get_or, ap, arith, inl, inr, subst, sym, cases_lt, length-set, length-take, get_or-set_other, get_or-set_same, get_or-take, get_or_default, get_or_from_slice_get, slice_get-get_or, slice_get_within, pair_of}
 use Rattle.path_delays.proofs.CyclePathLemmas.{pair_within}
 use Rattle.path_delays.proofs.cycle_paths.walk_along.Goals as goal
 

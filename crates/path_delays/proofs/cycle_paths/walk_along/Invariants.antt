@@ -1,8 +1,5 @@
 -- The pairs of the constraints passed so far stand in their lanes.
-use Rattle.std.proofs.Common.{◌≡◌, ◌<◌, ℕ, Some, length, get_or}
-use Rattle.std.specs.List.{slice_get}
-use Rattle.cts_model.specs.declared.constraint.Constraint.{Constraint}
-use Rattle.path_delays.specs.CyclePaths.{pair_of}
+use Rattle.path_delays.proofs.Vocabulary.{◌≡◌, ◌<◌, ℕ, Some, length, get_or, slice_get, Constraint, pair_of}
 use Rattle.path_delays.proofs.cycle_paths.walk_along.Given as goal
 
 abbrev pub invariant-loop-lane : goal.invariant-loop-lane

@@ -1,7 +1,5 @@
 -- The first signal with the extreme of all.
-use Rattle.std.proofs.Common.{Contains, arith}
-use Rattle.std.proofs.lemmas.List.Elements.{Contains-get_or}
-use Rattle.path_delays.specs.WalkParts.{sums_to}
+use Rattle.path_delays.proofs.Vocabulary.{Contains, arith, Contains-get_or, sums_to}
 use Rattle.path_delays.proofs.CarryLemmas.{nothing_at}
 use Rattle.path_delays.proofs.FurthestSignals.{furthest_found, some_fits, none_fits_next}
 use Rattle.path_delays.proofs.extreme_path.furthest.Goals as goal

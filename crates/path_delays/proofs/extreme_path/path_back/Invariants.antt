@@ -1,8 +1,5 @@
 -- The path back so far; the rank of its first signal falls with each turn.
-use Rattle.std.proofs.Common.{◌<◌, ℕ, length}
-use Rattle.cts_model.specs.declared.tech.Tech.{Tech}
-use Rattle.path_delays.specs.Handing.{rank_at}
-use Rattle.path_delays.specs.WalkParts.{HasReachBetween}
+use Rattle.path_delays.proofs.Vocabulary.{◌<◌, ℕ, length, Tech, rank_at, HasReachBetween}
 use Rattle.path_delays.proofs.PathsBack.{IsBack}
 use Rattle.path_delays.proofs.extreme_path.path_back.Given as goal
 

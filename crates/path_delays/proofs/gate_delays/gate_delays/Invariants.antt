@@ -1,6 +1,5 @@
 -- The delays of the signals passed so far.
-use Rattle.std.proofs.Common.{◌≡◌, map, take}
-use Rattle.path_delays.specs.Networks.{gate_sums}
+use Rattle.path_delays.proofs.Vocabulary.{◌≡◌, map, take, gate_sums}
 use Rattle.path_delays.proofs.gate_delays.gate_delays.Given as goal
 
 abbrev pub invariant-loop-signal : goal.invariant-loop-signal

@@ -1,6 +1,5 @@
 -- One signal more.
-use Rattle.std.proofs.Common.{◌≡◌, length, refl, arith}
-use Rattle.std.proofs.lemmas.Option.{slice_get_read}
+use Rattle.path_delays.proofs.Vocabulary.{◌≡◌, length, refl, arith, slice_get_read}
 use Rattle.path_delays.proofs.LaunchLemmas.{inputs_none, inputs_next, inputs_all}
 use Rattle.path_delays.proofs.launching.input_signals.Goals as goal
 

@@ -1,10 +1,5 @@
 -- One signal more, and all of them.
-use Rattle.std.proofs.Common.{◌≡◌, ◌<◌, ◌≤◌, ◌∷◌, [], ℕ, List, length, Option, Some, None, Contains, take, get_or, arith, refl, subst}
-use Rattle.std.proofs.lemmas.List.{take_all, take_more}
-use Rattle.path_delays.specs.declared.sums.Sums.{Sums}
-use Rattle.path_delays.specs.SumParts.{either_sums}
-use Rattle.path_delays.specs.Carrying.{AreExtremesIfAny, StandsAt}
-use Rattle.path_delays.specs.WalkParts.{sums_to}
+use Rattle.path_delays.proofs.Vocabulary.{◌≡◌, ◌<◌, ◌≤◌, ◌∷◌, [], ℕ, List, length, Option, Some, None, Contains, take, get_or, arith, refl, subst, take_all, take_more, Sums, either_sums, AreExtremesIfAny, StandsAt, sums_to}
 use Rattle.path_delays.proofs.CarryLemmas.{extremes_next}
 use Rattle.path_delays.proofs.pair.captured_sums.Goals as goal
 

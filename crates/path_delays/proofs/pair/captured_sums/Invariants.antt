@@ -1,7 +1,5 @@
 -- The least and the greatest at the signals passed so far.
-use Rattle.std.proofs.Common.{Contains, take}
-use Rattle.path_delays.specs.Carrying.{AreExtremesIfAny, StandsAt}
-use Rattle.path_delays.specs.WalkParts.{sums_to}
+use Rattle.path_delays.proofs.Vocabulary.{Contains, take, AreExtremesIfAny, StandsAt, sums_to}
 use Rattle.path_delays.proofs.pair.captured_sums.Given as goal
 
 abbrev pub invariant-loop-signal : goal.invariant-loop-signal

@@ -1,7 +1,5 @@
 -- What the walk found at the captured signals are the delays between the two registers.
-use Rattle.std.proofs.Common.{Contains, refl, arith}
-use Rattle.std.proofs.lemmas.Int.{ints}
-use Rattle.path_delays.specs.WalkParts.{sums_to}
+use Rattle.path_delays.proofs.Vocabulary.{Contains, refl, arith, ints, sums_to}
 use Rattle.path_delays.proofs.CarryLemmas.{nothing_at}
 use Rattle.path_delays.proofs.ReachedPairs.{no_path, delays_between}
 use Rattle.path_delays.proofs.pair.joined_pair.Goals as goal

@@ -1,6 +1,5 @@
 -- The pairs of the registers passed so far are listed.
-use Rattle.std.proofs.Common.{◌≤◌, vec_len}
-use Rattle.path_delays.specs.JoinedPairs.{ListsPairsBefore, pair_limit}
+use Rattle.path_delays.proofs.Vocabulary.{◌≤◌, vec_len, ListsPairsBefore, pair_limit}
 use Rattle.path_delays.proofs.pairs.push_block.Given as goal
 
 abbrev pub invariant-loop-from : goal.invariant-loop-from

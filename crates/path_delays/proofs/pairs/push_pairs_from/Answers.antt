@@ -1,6 +1,5 @@
 -- The pair of one register of the list more.
-use Rattle.std.proofs.Common.{◌+◌, get_or, arith}
-use Rattle.std.proofs.lemmas.Result.{err_from_is_err_and}
+use Rattle.path_delays.proofs.Vocabulary.{◌+◌, get_or, arith, err_from_is_err_and}
 use Rattle.path_delays.proofs.ReachedPairs.{captured_is_fan_in}
 use Rattle.path_delays.proofs.PendingPairs.{passed_all, passed_here, passed_next}
 use Rattle.path_delays.proofs.PairCounts.{shows_too_many}

@@ -1,8 +1,5 @@
 -- The pairs before the next register are listed.
-use Rattle.std.proofs.Common.{◌≤◌, ℕ, vec_len}
-use Rattle.cts_model.specs.declared.tech.Tech.{Tech}
-use Rattle.path_delays.specs.WalkParts.{HasReach}
-use Rattle.path_delays.specs.JoinedPairs.{ListsPairsBefore, pair_limit}
+use Rattle.path_delays.proofs.Vocabulary.{◌≤◌, ℕ, vec_len, Tech, HasReach, ListsPairsBefore, pair_limit}
 use Rattle.path_delays.proofs.PendingPairs.{ArePassed}
 use Rattle.path_delays.proofs.pairs.push_pairs_from.Given as goal
 
@@ -10,5 +7,4 @@ abbrev pub invariant-loop-to : goal.invariant-loop-to
 invariant-loop-to l = (next : ℕ) × ArePassed l.registers l.to-index next
     × ((tech : Tech) → HasReach l.circuit tech l.from l.lane l.walk
     → ListsPairsBefore l.circuit tech l.from 0 l.initial.pairs.items
-    → ListsPairsBefore l.circuit tech l.from next l.pairs.items)
-    × (vec_len l.pairs ≤ pair_limit)
+    → ListsPairsBefore l.circuit tech l.from next l.pairs.items) × (vec_len l.pairs ≤ pair_limit)

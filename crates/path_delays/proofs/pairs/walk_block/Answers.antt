@@ -1,7 +1,5 @@
 -- The lanes of the block hold its registers.
-use Rattle.std.proofs.Common.{◌≡◌, ◌+◌, ◌-◌, ◌<◌, length, take, get_or, Some, ◌∙◌, ap, subst, arith}
-use Rattle.std.proofs.lemmas.List.{length-take, get_or-take, get_or_default}
-use Rattle.std.proofs.lemmas.Option.{slice_get-get_or}
+use Rattle.path_delays.proofs.Vocabulary.{◌≡◌, ◌+◌, ◌-◌, ◌<◌, length, take, get_or, Some, ◌∙◌, ap, subst, arith, length-take, get_or-take, get_or_default, slice_get-get_or}
 use Rattle.path_delays.proofs.pairs.walk_block.Goals as goal
 
 pub walk_from-requires-clause-registers : goal.walk_from-requires-clause-registers

@@ -1,7 +1,4 @@
-use Rattle.std.proofs.Common.{◌≤◌, ◌-◌, length, vec_len}
-use Rattle.path_delays.specs.WalkParts.{IsRoomFor}
-use Rattle.path_delays.specs.Capturings.{IsCapturingOf}
-use Rattle.path_delays.specs.JoinedPairs.{ListsPairsBefore, pair_limit}
+use Rattle.path_delays.proofs.Vocabulary.{◌≤◌, ◌-◌, length, vec_len, IsRoomFor, IsCapturingOf, ListsPairsBefore, pair_limit}
 use Rattle.path_delays.proofs.pairs.walked_pairs.Given as goal
 
 abbrev pub invariant-loop-first : goal.invariant-loop-first

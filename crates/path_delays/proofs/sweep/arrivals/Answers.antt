@@ -1,8 +1,5 @@
 -- From nothing to what is launched, over all gates, to what is captured.
-use Rattle.std.proofs.Common.{rules, ◌≡◌, None, length, replicate}
-use Rattle.std.proofs.lemmas.Result.{IfOk-weaker}
-use Rattle.path_delays.specs.Windows.{AreWindows}
-use Rattle.path_delays.specs.WindowParts.{AreCaptures}
+use Rattle.path_delays.proofs.Vocabulary.{rules, ◌≡◌, None, length, replicate, IfOk-weaker, AreWindows, AreCaptures}
 use Rattle.path_delays.proofs.SweepLemmas.{launched_none, windows_are}
 use Rattle.path_delays.proofs.sweep.arrivals.Goals as goal
 

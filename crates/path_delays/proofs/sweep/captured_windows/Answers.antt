@@ -1,9 +1,5 @@
 -- One register more.
-use Rattle.std.proofs.Common.{Contains}
-use Rattle.std.specs.Option.{option_map}
-use Rattle.cts_model.specs.netlist.Paths.{Captures}
-use Rattle.path_delays.specs.Carrying.{StandsAt}
-use Rattle.path_delays.specs.WindowParts.{sums_in, sums_of}
+use Rattle.path_delays.proofs.Vocabulary.{Contains, option_map, Captures, StandsAt, sums_in, sums_of}
 use Rattle.path_delays.proofs.CarryLemmas.{extremes_same}
 use Rattle.path_delays.proofs.ReachedPairs.{captured_is_fan_in}
 use Rattle.path_delays.proofs.WindowLemmas.{captures_next}

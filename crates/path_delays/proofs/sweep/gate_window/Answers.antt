@@ -1,8 +1,5 @@
 -- The gate's window is that of what it reads, moved by the gate's delay.
-use Rattle.std.proofs.Common.{◌+◌, ◌*◌, ◌^◌, Contains, Some, None, ap, refl, subst, arith}
-use Rattle.std.proofs.lemmas.Option.{same_Some}
-use Rattle.path_delays.specs.declared.window.Window.{Window}
-use Rattle.path_delays.specs.Windows.{IsWindowBelow}
+use Rattle.path_delays.proofs.Vocabulary.{◌+◌, ◌*◌, ◌^◌, Contains, Some, None, ap, refl, subst, arith, same_Some, Window, IsWindowBelow}
 use Rattle.path_delays.proofs.WindowLemmas.{extremes_below, gate_small, kept_ticks}
 use Rattle.path_delays.proofs.sweep.gate_window.Goals as goal
 

@@ -1,7 +1,5 @@
 -- One signal more, and all of them.
-use Rattle.std.proofs.Common.{◌≡◌, length, take, get_or, subst, arith}
-use Rattle.std.proofs.lemmas.List.Elements.{Contains-get_or}
-use Rattle.path_delays.specs.WindowParts.{AreSwept, BegunTo, NoneHanded}
+use Rattle.path_delays.proofs.Vocabulary.{◌≡◌, length, take, get_or, subst, arith, Contains-get_or, AreSwept, BegunTo, NoneHanded}
 use Rattle.path_delays.proofs.LaunchLemmas.{launched_within}
 use Rattle.path_delays.proofs.SweepLemmas.{begun_all, begun_next, begun_none}
 use Rattle.path_delays.proofs.sweep.launch.Goals as goal

@@ -1,6 +1,5 @@
 -- The signals passed so far start too.
-use Rattle.std.proofs.Common.{take}
-use Rattle.path_delays.specs.WindowParts.{AreSwept, BegunTo, NoneHanded}
+use Rattle.path_delays.proofs.Vocabulary.{take, AreSwept, BegunTo, NoneHanded}
 use Rattle.path_delays.proofs.sweep.launch.Given as goal
 
 abbrev pub invariant-loop-signal : goal.invariant-loop-signal

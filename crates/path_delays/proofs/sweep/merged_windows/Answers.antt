@@ -1,9 +1,5 @@
 -- One signal more, and all of them.
-use Rattle.std.proofs.Common.{Contains, take, get_or, arith, subst}
-use Rattle.std.specs.Option.{option_map}
-use Rattle.std.proofs.lemmas.List.{take_all, take_more}
-use Rattle.path_delays.specs.Carrying.{AreExtremesIfAny, StandsAt}
-use Rattle.path_delays.specs.WindowParts.{sums_in, sums_of, window_at}
+use Rattle.path_delays.proofs.Vocabulary.{Contains, take, get_or, arith, subst, option_map, take_all, take_more, AreExtremesIfAny, StandsAt, sums_in, sums_of, window_at}
 use Rattle.path_delays.proofs.CarryLemmas.{extremes_next}
 use Rattle.path_delays.proofs.WindowLemmas.{sums_of_either}
 use Rattle.path_delays.proofs.sweep.merged_windows.Goals as goal

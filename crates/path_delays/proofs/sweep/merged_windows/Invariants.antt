@@ -1,8 +1,5 @@
 -- The window over the signals passed so far.
-use Rattle.std.proofs.Common.{Contains, take}
-use Rattle.std.specs.Option.{option_map}
-use Rattle.path_delays.specs.Carrying.{AreExtremesIfAny, StandsAt}
-use Rattle.path_delays.specs.WindowParts.{sums_in, sums_of}
+use Rattle.path_delays.proofs.Vocabulary.{Contains, take, option_map, AreExtremesIfAny, StandsAt, sums_in, sums_of}
 use Rattle.path_delays.proofs.sweep.merged_windows.Given as goal
 
 abbrev pub invariant-loop-signal : goal.invariant-loop-signal

@@ -1,7 +1,5 @@
 -- One gate more.
-use Rattle.std.proofs.Common.{◌*◌, ◌^◌, ℕ, List, length, get_or, ap, subst, arith}
-use Rattle.path_delays.specs.Windows.{IsWindowBelow}
-use Rattle.path_delays.specs.WindowParts.{window_limit, ArePassed}
+use Rattle.path_delays.proofs.Vocabulary.{◌*◌, ◌^◌, ℕ, List, length, get_or, ap, subst, arith, IsWindowBelow, window_limit, ArePassed}
 use Rattle.path_delays.proofs.NetworkLemmas.{few_gates}
 use Rattle.path_delays.proofs.WindowLemmas.{below_wider, kept_ticks}
 use Rattle.path_delays.proofs.SweepLemmas.{passed_none, passed_next, next_within, next_read}

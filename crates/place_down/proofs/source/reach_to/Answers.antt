@@ -1,8 +1,4 @@
-use Rattle.std.proofs.Common.{◌≡◌, ◌+ℤ◌, FitsSigned, ap, ◌∙◌, arith}
-use Rattle.std.proofs.lemmas.Int.{ints, to_z-of_z}
-use Rattle.std.specs.Int.{w128}
-use Rattle.cts_model.specs.placement.Points.{rotated, rotated_distance}
-use Rattle.tilted_rect.proofs.CodeNumbers.{sum_read}
+use Rattle.place_down.proofs.Vocabulary.{◌≡◌, ◌+ℤ◌, FitsSigned, ap, ◌∙◌, arith, ints, to_z-of_z, w128, rotated, rotated_distance, sum_read}
 use Rattle.place_down.proofs.SourceLemmas.{far_below, far_multiple}
 use Rattle.place_down.proofs.source.reach_to.Goals as goal
 use Rattle.place_down.proofs.source.reach_to.Goals.{After-manhattan}

@@ -1,10 +1,4 @@
-use Rattle.std.proofs.Common.{pos, take, arith}
-use Rattle.std.proofs.lemmas.Int.{ints, to_z-of_z}
-use Rattle.std.proofs.lemmas.List.{take_more, take_all}
-use Rattle.std.proofs.lemmas.Option.{slice_get-get_or}
-use Rattle.std.specs.Int.{w128}
-use Rattle.tilted_rect.proofs.CodeNumbers.{kept}
-use Rattle.cts_model.specs.declared.place.Sink.{Sink}
+use Rattle.place_down.proofs.Vocabulary.{pos, take, arith, ints, to_z-of_z, take_more, take_all, slice_get-get_or, w128, kept, Sink}
 use Rattle.place_down.proofs.SourceLemmas.{top_first}
 use Rattle.place_down.proofs.source.top_of.Goals as goal
 

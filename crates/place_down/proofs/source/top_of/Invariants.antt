@@ -1,5 +1,4 @@
-use Rattle.std.proofs.Common.{take}
-use Rattle.place_down.specs.Sources.{IsTop}
+use Rattle.place_down.proofs.Vocabulary.{take, IsTop}
 use Rattle.place_down.proofs.source.top_of.Given as goal
 
 abbrev pub invariant-loop-register : goal.invariant-loop-register

@@ -1,13 +1,4 @@
-use Rattle.std.proofs.Common.{◌≡◌, ◌*◌, ◌^◌, Some, length, pos, slice_get, arith}
-use Rattle.std.proofs.lemmas.Int.{ints, to_z-of_z}
-use Rattle.std.proofs.lemmas.Option.{get_or_from_slice_get}
-use Rattle.std.specs.Int.{w128}
-use Rattle.cts_model.specs.placement.Points.{IsBelow, IsMultipleOf}
-use Rattle.cts_model.specs.tree.Topologies.{root_of}
-use Rattle.merge_up.specs.Works.{IsSettled}
-use Rattle.tilted_rect.proofs.CodeNumbers.{kept}
-use Rattle.place_down.specs.Sources.{IsTop}
-use Rattle.place_down.specs.Trees.{HasTreeNumbers, IsPlacedTree, StaysMerged}
+use Rattle.place_down.proofs.Vocabulary.{◌≡◌, ◌*◌, ◌^◌, Some, length, pos, slice_get, arith, ints, to_z-of_z, get_or_from_slice_get, w128, IsBelow, IsMultipleOf, root_of, IsSettled, kept, IsTop, HasTreeNumbers, IsPlacedTree, StaysMerged}
 use Rattle.place_down.proofs.RegionBounds.{below_more}
 use Rattle.place_down.proofs.Standing.{held_small}
 use Rattle.place_down.proofs.Placed.{all_placed, can_settle_root, root_stand}

@@ -1,7 +1,4 @@
-use Rattle.std.proofs.Common.{pos, arith}
-use Rattle.std.proofs.lemmas.Int.{ints}
-use Rattle.std.proofs.lemmas.Option.{get_or_from_slice_get}
-use Rattle.tilted_rect.proofs.CodeNumbers.{difference_read}
+use Rattle.place_down.proofs.Vocabulary.{pos, arith, ints, get_or_from_slice_get, difference_read}
 use Rattle.place_down.proofs.top_down.settle_below.Goals as goal
 
 pub returns : goal.returns

@@ -1,10 +1,4 @@
-use Rattle.std.proofs.Common.{◌+◌, inl, inr, length, refl, arith}
-use Rattle.std.proofs.lemmas.Int.{ints, to_z-of_z}
-use Rattle.std.specs.Int.{w128}
-use Rattle.cts_model.specs.placement.Points.{rotated}
-use Rattle.cts_model.proofs.ParentLemmas.{made_parent}
-use Rattle.cts_model.proofs.TopologyLemmas.{merge_here}
-use Rattle.tilted_rect.proofs.CodeNumbers.{kept}
+use Rattle.place_down.proofs.Vocabulary.{◌+◌, inl, inr, length, refl, arith, ints, to_z-of_z, w128, rotated, made_parent, merge_here, kept}
 use Rattle.place_down.proofs.RegionBounds.{below_more, point_below}
 use Rattle.place_down.proofs.Standing.{IsReady, can_settle, joined_above, joined_stand, ready, ready_still}
 use Rattle.place_down.proofs.top_down.settle_joined.Goals as goal

@@ -1,5 +1,4 @@
-use Rattle.std.proofs.Common.{◌≤◌, length}
-use Rattle.place_down.specs.Descents.{StandFrom, StaysAbove}
+use Rattle.place_down.proofs.Vocabulary.{◌≤◌, length, StandFrom, StaysAbove}
 use Rattle.place_down.proofs.top_down.settle_merges.Given as goal
 
 abbrev pub invariant-loop-place : goal.invariant-loop-place

@@ -1,8 +1,5 @@
-use Rattle.std.proofs.Common.{inl, inr, sym, ap, ◌∙◌, Err}
-use Rattle.std.proofs.lemmas.Result.{err_from_is_err_and}
+use Rattle.place_reader.proofs.Vocabulary.{inl, inr, sym, ap, ◌∙◌, Err, err_from_is_err_and, NoMemory, place_of, with_source}
 use Rattle.cts_base.proofs.Told.{told_err, told_ok}
-use Rattle.place_reader.specs.declared.fault.PlaceFault.TheVariants.{NoMemory}
-use Rattle.place_reader.specs.Placements.{place_of, with_source}
 use Rattle.place_reader.proofs.ToldPlaces.{kept_told, line_refused}
 use Rattle.place_reader.proofs.read.read_places.Goals as goal
 

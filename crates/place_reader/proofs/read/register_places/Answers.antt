@@ -1,8 +1,4 @@
-use Rattle.std.proofs.Common.{◌+◌, inl, subst, sym, arith, []}
-use Rattle.std.specs.List.{slice_get}
-use Rattle.std.specs.Option.{option_map_or}
-use Rattle.std.proofs.lemmas.List.{length-map}
-use Rattle.place_reader.specs.Placements.{node_name, place_of, register_nodes}
+use Rattle.place_reader.proofs.Vocabulary.{◌+◌, inl, subst, sym, arith, [], slice_get, option_map_or, length-map, node_name, place_of, register_nodes}
 use Rattle.place_reader.proofs.ToldPlaces.{ArePoints, all_points, no_point, no_points, point_more}
 use Rattle.place_reader.proofs.read.register_places.Goals as goal
 

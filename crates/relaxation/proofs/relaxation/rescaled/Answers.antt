@@ -1,7 +1,5 @@
 -- Scales are above 0, so the quotient is no larger than the product.
-use Rattle.std.proofs.Common.{FitsSigned, ℤ, ◌*ℤ◌, arith}
-use Rattle.std.proofs.lemmas.Int.{ints, quot_fits}
-use Rattle.std.specs.Int.{w128}
+use Rattle.relaxation.proofs.Vocabulary.{FitsSigned, ℤ, ◌*ℤ◌, arith, ints, quot_fits, w128}
 use Rattle.relaxation.proofs.GainLemmas.{kept, scaled_fits, scaled_kept}
 use Rattle.relaxation.proofs.relaxation.rescaled.Goals as goal
 

@@ -1,7 +1,5 @@
 -- What the greatest ratio says of the margin.
-use Rattle.std.proofs.Common.{List, ℕ, All, Contains}
-use Rattle.std.proofs.lemmas.List.Elements.{All-contains_itself}
-use Rattle.cts_model.specs.declared.constraint.Constraint.{Constraint}
+use Rattle.safety_margin.proofs.Vocabulary.{List, ℕ, All, Contains, All-contains_itself, Constraint}
 use Rattle.critical_cycle.specs.CyclePlaces.{AreWithin, constraints_at}
 use Rattle.critical_cycle.proofs.PlaceLemmas.{All-constraints_at}
 use Rattle.safety_margin.proofs.MarginLemmas.{can_spare, margin_small, no_more, shows_margin}

@@ -1,8 +1,5 @@
 -- A whole number over 1 in lowest terms is the number.
-use Rattle.std.proofs.Common.{◌≡◌, ◌^◌, ◌∙◌, ℤ, pos, neg_ℤ, ◌+ℤ◌, ◌-ℤ◌, ◌*ℤ◌, ◌≤ℤ◌, ◌<ℤ◌, ap, arith}
-use Rattle.std.proofs.lemmas.Int.{ints}
-use Rattle.cts_base.specs.declared.fraction.Fraction.{Fraction}
-use Rattle.safety_margin.specs.RatioMargins.{IsBelowAll}
+use Rattle.safety_margin.proofs.Vocabulary.{◌≡◌, ◌^◌, ◌∙◌, ℤ, pos, neg_ℤ, ◌+ℤ◌, ◌-ℤ◌, ◌*ℤ◌, ◌≤ℤ◌, ◌<ℤ◌, ap, arith, ints, Fraction, IsBelowAll}
 use Rattle.safety_margin.proofs.CodeLemmas.{kept}
 use Rattle.safety_margin.proofs.ratio.below_all.Goals as goal
 

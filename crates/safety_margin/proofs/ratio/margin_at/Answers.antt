@@ -1,11 +1,5 @@
 -- The ratio negated, over the period's denominator.
-use Rattle.std.proofs.Common.{◌≡◌, ◌≤◌, ◌*◌, ◌^◌, ◌∙◌, ℕ, zero, suc, ℤ, pos, negsuc, neg_ℤ, ◌+ℤ◌, ◌-ℤ◌, ◌*ℤ◌, ◌≤ℤ◌, ◌<ℤ◌, ap, refl, arith}
-use Rattle.std.specs.Prelude.{nat_abs}
-use Rattle.std.proofs.lemmas.Int.{ints}
-use Rattle.std.proofs.lemmas.Nat.{mul-le}
-use Rattle.cts_base.specs.declared.fraction.Fraction.{Fraction}
-use Rattle.critical_cycle.specs.RatioSizes.{IsSmallRatio}
-use Rattle.cts_model.specs.timing.Schedules.{IsMarginPeriod}
+use Rattle.safety_margin.proofs.Vocabulary.{◌≡◌, ◌≤◌, ◌*◌, ◌^◌, ◌∙◌, ℕ, zero, suc, ℤ, pos, negsuc, neg_ℤ, ◌+ℤ◌, ◌-ℤ◌, ◌*ℤ◌, ◌≤ℤ◌, ◌<ℤ◌, ap, refl, arith, nat_abs, ints, mul-le, Fraction, IsSmallRatio, IsMarginPeriod}
 use Rattle.safety_margin.proofs.CodeLemmas.{kept}
 use Rattle.safety_margin.proofs.ratio.margin_at.Goals as goal
 

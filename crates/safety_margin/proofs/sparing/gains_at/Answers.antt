@@ -1,9 +1,5 @@
 -- Products are small, so the code's numbers are the same.
-use Rattle.std.proofs.Common.{◌≡◌, ◌*◌, ◌^◌, ◌∙◌, ℤ, pos, neg_ℤ, ◌-ℤ◌, ◌*ℤ◌, ◌≤ℤ◌, FitsSigned, ap, arith}
-use Rattle.std.specs.Int.{w128}
-use Rattle.std.proofs.lemmas.Int.{ints}
-use Rattle.cts_base.specs.declared.fraction.Fraction.{Fraction}
-use Rattle.cts_model.specs.placement.Points.{IsBelow}
+use Rattle.safety_margin.proofs.Vocabulary.{◌≡◌, ◌*◌, ◌^◌, ◌∙◌, ℤ, pos, neg_ℤ, ◌-ℤ◌, ◌*ℤ◌, ◌≤ℤ◌, FitsSigned, ap, arith, w128, ints, Fraction, IsBelow}
 use Rattle.relaxation.specs.GainSizes.{AreSmallGains}
 use Rattle.safety_margin.proofs.CodeLemmas.{kept}
 use Rattle.safety_margin.proofs.SharingLemmas.{AreSmallParts, small_parts}

@@ -1,6 +1,5 @@
 -- The product is small, so the code's is the same.
-use Rattle.std.proofs.Common.{◌^◌, subst, sym}
-use Rattle.cts_model.specs.placement.Points.{IsBelow}
+use Rattle.safety_margin.proofs.Vocabulary.{◌^◌, subst, sym, IsBelow}
 use Rattle.safety_margin.proofs.CodeLemmas.{product_read, product_small}
 use Rattle.safety_margin.proofs.sparing.product.Goals as goal
 

@@ -1,9 +1,5 @@
 -- The gains over the least common multiple are admitted, and their least arrivals spare the value.
-use Rattle.std.proofs.Common.{◌≡◌, ◌*◌, ◌^◌, ℤ, pos, ◌*ℤ◌, ◌≤ℤ◌, ap, subst, sym, arith}
-use Rattle.std.specs.Prelude.{nat_abs}
-use Rattle.std.proofs.lemmas.Int.{ints}
-use Rattle.safety_margin.specs.Margins.{IsOver, Spares}
-use Rattle.safety_margin.specs.SparingSchedules.{AreLeastSparing}
+use Rattle.safety_margin.proofs.Vocabulary.{◌≡◌, ◌*◌, ◌^◌, ℤ, pos, ◌*ℤ◌, ◌≤ℤ◌, ap, subst, sym, arith, nat_abs, ints, IsOver, Spares, AreLeastSparing}
 use Rattle.safety_margin.proofs.CodeLemmas.{kept}
 use Rattle.safety_margin.proofs.SharingLemmas.{admits, least_sparing, multiple, period_over, scale_is, value_over}
 use Rattle.safety_margin.proofs.sparing.sparing_schedule.Goals as goal

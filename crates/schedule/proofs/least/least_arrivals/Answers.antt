@@ -1,6 +1,5 @@
 -- Arrivals of 0 can be raised, and so can those that were.
-use Rattle.std.proofs.Common.{subst, sym}
-use Rattle.schedule.specs.Rises.{CanRaise}
+use Rattle.schedule.proofs.Vocabulary.{subst, sym, CanRaise}
 use Rattle.schedule.proofs.RiseLemmas.{CanRaise-raised, CanRaise-zero}
 use Rattle.schedule.proofs.least.least_arrivals.Goals as goal
 

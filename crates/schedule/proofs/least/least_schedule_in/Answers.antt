@@ -1,8 +1,6 @@
 -- The gains at the period are admitted, and give the least schedule, whose arrivals are low and
 -- small.
-use Rattle.std.proofs.Common.{◌∙◌, ap, length, pos, subst, sym}
-use Rattle.std.proofs.lemmas.List.{length-replicate}
-use Rattle.cts_model.specs.timing.Constraints.{AreSmallConstraints}
+use Rattle.schedule.proofs.Vocabulary.{◌∙◌, ap, length, pos, subst, sym, length-replicate, AreSmallConstraints}
 use Rattle.schedule.proofs.PeriodLemmas.{admits_gains, bound_at_period, least_at_period, small_at_period}
 use Rattle.schedule.proofs.RiseLemmas.{CanRaise-zero}
 use Rattle.schedule.proofs.least.least_schedule_in.Goals as goal

@@ -1,8 +1,6 @@
 -- Sweeps satisfy the constraints, as some arrivals do, and keep the arrivals rising, so they are
 -- the least and small.
-use Rattle.std.proofs.Common.{◌^◌, All, subst, sym, arith}
-use Rattle.cts_model.specs.placement.Points.{IsBelow}
-use Rattle.schedule.specs.Gains.{AreLeastArrivalsBy}
+use Rattle.schedule.proofs.Vocabulary.{◌^◌, All, subst, sym, arith, IsBelow, AreLeastArrivalsBy}
 use Rattle.schedule.proofs.RiseLemmas.{CanRaise-raised, least_settled, small_ready}
 use Rattle.schedule.proofs.least.settled.Goals as goal
 

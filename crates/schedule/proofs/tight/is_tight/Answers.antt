@@ -1,6 +1,4 @@
-use Rattle.std.proofs.Common.{rules, FitsSigned, ◌*ℤ◌, ◌∙◌, refl}
-use Rattle.std.specs.Int.{w128}
-use Rattle.cts_model.specs.timing.Schedules.{arrival_of}
+use Rattle.schedule.proofs.Vocabulary.{rules, FitsSigned, ◌*ℤ◌, ◌∙◌, refl, w128, arrival_of}
 use Rattle.schedule.proofs.TightLemmas.{tight_read}
 use Rattle.schedule.proofs.tight.is_tight.Goals as goal
 

@@ -1,6 +1,4 @@
-use Rattle.std.proofs.Common.{Contains, rules, sym, subst}
-use Rattle.cts_model.specs.timing.Leads.{EachLead}
-use Rattle.schedule.specs.Reaching.{IsWhole}
+use Rattle.schedule.proofs.Vocabulary.{Contains, rules, sym, subst, EachLead, IsWhole}
 use Rattle.schedule.proofs.LeadLemmas.{EachLead-whole, low_depth}
 use Rattle.schedule.proofs.tight.leads.Goals as goal
 

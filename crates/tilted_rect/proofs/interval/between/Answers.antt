@@ -1,5 +1,4 @@
-use Rattle.std.proofs.Common.{arith}
-use Rattle.std.proofs.lemmas.Int.{ints, clamps}
+use Rattle.tilted_rect.proofs.Vocabulary.{arith, ints, clamps}
 use Rattle.tilted_rect.proofs.interval.between.Goals as goal
 
 pub returns-then-other_hi-lo : goal.returns-then-other_hi-lo

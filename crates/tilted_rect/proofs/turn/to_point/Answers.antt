@@ -1,6 +1,4 @@
-use Rattle.std.proofs.Common.{◌≡◌, ◌+ℤ◌, ◌-ℤ◌, ap, arith}
-use Rattle.std.proofs.lemmas.Int.{ints}
-use Rattle.cts_model.specs.declared.place.Uv.{Uv}
+use Rattle.tilted_rect.proofs.Vocabulary.{◌≡◌, ◌+ℤ◌, ◌-ℤ◌, ap, arith, ints, Uv}
 use Rattle.tilted_rect.proofs.CodeNumbers.{kept}
 use Rattle.tilted_rect.proofs.TurnLemmas.{rotated_is, same_point}
 use Rattle.tilted_rect.proofs.turn.to_point.Goals as goal

@@ -1,6 +1,5 @@
 -- The table's numbers and the delays are small, so the code's are the same.
-use Rattle.std.proofs.Common.{arith, ◌≤ℤ◌, ◌+ℤ◌, sym}
-use Rattle.std.proofs.lemmas.Int.{ints}
+use Rattle.timing_report.proofs.Vocabulary.{arith, ◌≤ℤ◌, ◌+ℤ◌, sym, ints}
 use Rattle.timing_report.proofs.FirstPairs.{first_found, none_found}
 use Rattle.timing_report.proofs.ListedPeriods.{small_at, floor_alone, floor_enough, most_needed}
 use Rattle.timing_report.proofs.equal_arrivals.zero_skew_of.Goals as goal

@@ -1,6 +1,5 @@
 -- The sums of the code are those of the definition.
-use Rattle.std.proofs.Common.{◌∙◌, ◌+ℤ◌, ◌-ℤ◌, ◌*ℤ◌, ap, arith}
-use Rattle.path_delays.proofs.WindowLemmas.{kept_time, kept_ticks}
+use Rattle.timing_report.proofs.Vocabulary.{◌∙◌, ◌+ℤ◌, ◌-ℤ◌, ◌*ℤ◌, ap, arith, kept_time, kept_ticks}
 use Rattle.timing_report.proofs.slack.hold_slack.Goals as goal
 
 pub returns-clause-ticks : goal.returns-clause-ticks

@@ -1,7 +1,5 @@
 -- The sums of the code are those of the definition.
-use Rattle.std.proofs.Common.{◌∙◌, ◌^◌, ◌+ℤ◌, ◌-ℤ◌, ◌*ℤ◌, ap, arith}
-use Rattle.std.proofs.lemmas.Int.{ints}
-use Rattle.path_delays.proofs.WindowLemmas.{kept_time, kept_ticks}
+use Rattle.timing_report.proofs.Vocabulary.{◌∙◌, ◌^◌, ◌+ℤ◌, ◌-ℤ◌, ◌*ℤ◌, ap, arith, ints, kept_time, kept_ticks}
 use Rattle.timing_report.proofs.slack.setup_slack.Goals as goal
 
 pub returns-clause-ticks : goal.returns-clause-ticks

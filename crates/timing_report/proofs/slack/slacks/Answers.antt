@@ -1,8 +1,6 @@
 -- The slacks by the windows are those of the circuit.
-use Rattle.std.proofs.Common.{length}
+use Rattle.timing_report.proofs.Vocabulary.{length, AreSlacks, AreSlacksBefore}
 use Rattle.std.proofs.lemmas.Result.{IfOk-weaker}
-use Rattle.cts_model.specs.timing.Slacks.{AreSlacks}
-use Rattle.timing_report.specs.SpareTicks.{AreSlacksBefore}
 use Rattle.timing_report.proofs.SlackLemmas.{slacks_are}
 use Rattle.timing_report.proofs.slack.slacks.Goals as goal
 

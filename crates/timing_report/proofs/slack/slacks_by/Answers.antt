@@ -1,7 +1,5 @@
 -- One register more.
-use Rattle.std.proofs.Common.{get_or, pos, arith, subst}
-use Rattle.path_delays.proofs.WindowLemmas.{kept_time}
-use Rattle.timing_report.specs.SpareTicks.{AreSlacksBefore}
+use Rattle.timing_report.proofs.Vocabulary.{get_or, pos, arith, subst, kept_time, AreSlacksBefore}
 use Rattle.timing_report.proofs.SlackLemmas.{slacks_next}
 use Rattle.timing_report.proofs.slack.slacks_by.Goals as goal
 

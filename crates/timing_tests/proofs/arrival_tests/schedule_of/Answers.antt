@@ -1,8 +1,5 @@
 -- One arrival more.
-use Rattle.std.proofs.Common.{◌^◌, arith}
-use Rattle.std.proofs.lemmas.List.{length_push}
-use Rattle.std.proofs.lemmas.List.Elements.{All-push}
-use Rattle.cts_model.specs.placement.Points.{IsBelow}
+use Rattle.timing_tests.proofs.Vocabulary.{◌^◌, arith, length_push, All-push, IsBelow}
 use Rattle.path_delays.proofs.WindowLemmas.{kept_time}
 use Rattle.timing_tests.proofs.arrival_tests.schedule_of.Goals as goal
 

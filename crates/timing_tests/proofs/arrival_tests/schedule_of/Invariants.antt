@@ -1,7 +1,6 @@
 -- The arrivals passed so far, each below 10^19 in size.
-use Rattle.std.proofs.Common.{◌≡◌, ◌^◌, length}
+use Rattle.timing_tests.proofs.Vocabulary.{◌≡◌, ◌^◌, length, IsBelow}
 use Rattle.std.specs.Prelude.{All}
-use Rattle.cts_model.specs.placement.Points.{IsBelow}
 use Rattle.timing_tests.proofs.arrival_tests.schedule_of.Given as goal
 
 abbrev pub invariant-loop-arrival : goal.invariant-loop-arrival

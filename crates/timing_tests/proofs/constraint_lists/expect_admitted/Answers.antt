@@ -1,10 +1,5 @@
-use Rattle.std.proofs.Common.{All, subst, ◌∙◌}
-use Rattle.std.specs.Prelude.{nat_abs}
-use Rattle.std.proofs.lemmas.List.{take_all}
-use Rattle.std.proofs.lemmas.List.Elements.{All-more}
+use Rattle.timing_tests.proofs.Vocabulary.{All, subst, ◌∙◌, nat_abs, take_all, All-more, IsSatisfied, arrival_of}
 use Rattle.cts_model.specs.declared.constraint.Constraint.{Constraint}
-use Rattle.cts_model.specs.timing.Constraints.{IsSatisfied}
-use Rattle.cts_model.specs.timing.Schedules.{arrival_of}
 use Rattle.timing_tests.proofs.constraint_lists.expect_admitted.Goals as goal
 
 pub loop-constraint-preserved : goal.loop-constraint-preserved

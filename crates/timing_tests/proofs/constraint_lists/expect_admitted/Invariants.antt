@@ -1,7 +1,4 @@
-use Rattle.std.proofs.Common.{take, All}
-use Rattle.std.specs.Prelude.{nat_abs}
-use Rattle.cts_model.specs.timing.Constraints.{IsSatisfied}
-use Rattle.cts_model.specs.timing.Schedules.{arrival_of}
+use Rattle.timing_tests.proofs.Vocabulary.{take, All, nat_abs, IsSatisfied, arrival_of}
 use Rattle.timing_tests.proofs.constraint_lists.expect_admitted.Given as goal
 
 abbrev pub invariant-loop-constraint : goal.invariant-loop-constraint

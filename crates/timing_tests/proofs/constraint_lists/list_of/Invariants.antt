@@ -1,6 +1,5 @@
-use Rattle.std.proofs.Common.{◌≡◌, length}
+use Rattle.timing_tests.proofs.Vocabulary.{◌≡◌, length, IsSmallConstraint}
 use Rattle.std.specs.Prelude.{All}
-use Rattle.cts_model.specs.timing.Constraints.{IsSmallConstraint}
 use Rattle.timing_tests.proofs.constraint_lists.list_of.Given as goal
 
 abbrev pub invariant-loop-constraint : goal.invariant-loop-constraint

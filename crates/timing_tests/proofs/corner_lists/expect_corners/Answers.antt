@@ -1,7 +1,4 @@
-use Rattle.std.proofs.Common.{All, [], subst}
-use Rattle.std.proofs.lemmas.List.{take_all}
-use Rattle.std.proofs.lemmas.List.Elements.{All-more}
-use Rattle.corners.specs.CornerLists.{AreParallel}
+use Rattle.timing_tests.proofs.Vocabulary.{All, [], subst, take_all, All-more, AreParallel}
 use Rattle.timing_tests.proofs.corner_lists.expect_corners.Goals as goal
 
 pub loop-corner-preserved : goal.loop-corner-preserved

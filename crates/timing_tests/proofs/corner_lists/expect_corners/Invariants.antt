@@ -1,5 +1,4 @@
-use Rattle.std.proofs.Common.{All, take}
-use Rattle.corners.specs.CornerLists.{AreParallel}
+use Rattle.timing_tests.proofs.Vocabulary.{All, take, AreParallel}
 use Rattle.timing_tests.proofs.corner_lists.expect_corners.Given as goal
 
 abbrev pub invariant-loop-corner : goal.invariant-loop-corner

@@ -1,5 +1,4 @@
-use Rattle.std.proofs.Common.{◌<◌, ℕ}
-use Rattle.corners.specs.CornerLists.{AreAlike, constraint_at}
+use Rattle.timing_tests.proofs.Vocabulary.{◌<◌, ℕ, AreAlike, constraint_at}
 use Rattle.timing_tests.proofs.corner_lists.expect_parallel.Given as goal
 
 abbrev pub invariant-loop-place : goal.invariant-loop-place

@@ -1,7 +1,4 @@
-use Rattle.std.proofs.Common.{All, [], subst, ◌∙◌}
-use Rattle.std.proofs.lemmas.List.{get_or_default, take_all}
-use Rattle.std.proofs.lemmas.List.Elements.{All-more}
-use Rattle.corners.specs.CornerLists.{AreParallel, list_of}
+use Rattle.timing_tests.proofs.Vocabulary.{All, [], subst, ◌∙◌, get_or_default, take_all, All-more, AreParallel, list_of}
 use Rattle.timing_tests.proofs.corner_lists.expect_parallel_to_all.Goals as goal
 
 pub loop-other-preserved : goal.loop-other-preserved

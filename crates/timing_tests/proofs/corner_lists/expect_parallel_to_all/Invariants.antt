@@ -1,5 +1,4 @@
-use Rattle.std.proofs.Common.{All, take}
-use Rattle.corners.specs.CornerLists.{AreParallel, list_of}
+use Rattle.timing_tests.proofs.Vocabulary.{All, take, AreParallel, list_of}
 use Rattle.timing_tests.proofs.corner_lists.expect_parallel_to_all.Given as goal
 
 abbrev pub invariant-loop-other : goal.invariant-loop-other

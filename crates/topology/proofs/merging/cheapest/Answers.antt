@@ -1,5 +1,4 @@
-use Rattle.std.proofs.Common.{length, true≢false, sym, subst, ◌∙◌}
-use Rattle.topology.specs.LiveClusters.{IsFirstOf, IsNearest}
+use Rattle.topology.proofs.Vocabulary.{length, true≢false, sym, subst, ◌∙◌, IsFirstOf, IsNearest}
 use Rattle.topology.proofs.CoverLemmas.{kept_first, replaced_covers, replaced_fewer}
 use Rattle.topology.proofs.merging.cheapest.Goals as goal
 

@@ -1,6 +1,4 @@
-use Rattle.std.proofs.Common.{◌++◌, ◌∷◌, [], length, length-append, ap, sym, subst, ◌∙◌, arith}
-use Rattle.std.specs.Option.{IfSome}
-use Rattle.topology.specs.LiveClusters.{IsCheapestPair, IsMerging, IsNearest}
+use Rattle.topology.proofs.Vocabulary.{◌++◌, ◌∷◌, [], length, length-append, ap, sym, subst, ◌∙◌, arith, IfSome, IsCheapestPair, IsMerging, IsNearest}
 use Rattle.topology.proofs.JoinLemmas.{merging_next, some_found}
 use Rattle.topology.proofs.MergeLemmas.{pair_there}
 use Rattle.topology.proofs.merging.greedy.Goals as goal

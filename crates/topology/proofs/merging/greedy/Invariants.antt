@@ -1,5 +1,4 @@
-use Rattle.std.proofs.Common.{◌≡◌, ◌+◌, length}
-use Rattle.topology.specs.LiveClusters.{IsMerging}
+use Rattle.topology.proofs.Vocabulary.{◌≡◌, ◌+◌, length, IsMerging}
 use Rattle.topology.proofs.merging.greedy.Given as goal
 
 -- all is right with the merges so far

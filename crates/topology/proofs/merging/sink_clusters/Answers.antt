@@ -1,5 +1,4 @@
-use Rattle.std.proofs.Common.{arith}
-use Rattle.std.proofs.lemmas.Option.{slice_get-get_or}
+use Rattle.topology.proofs.Vocabulary.{arith, slice_get-get_or}
 use Rattle.topology.proofs.JoinLemmas.{sink_added, sinks_live}
 use Rattle.topology.proofs.merging.sink_clusters.Goals as goal
 

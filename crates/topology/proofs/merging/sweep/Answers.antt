@@ -1,7 +1,4 @@
-use Rattle.std.proofs.Common.{◌≡◌, ◌+◌, ◌++◌, ◌∷◌, [], pos, true≢false, ap, sym, subst, ◌∙◌}
-use Rattle.std.specs.Option.{IsSomeAnd}
-use Rattle.topology.specs.declared.pair.Pair.{Pair}
-use Rattle.topology.specs.LiveClusters.{IsNearest, IsSwept}
+use Rattle.topology.proofs.Vocabulary.{◌≡◌, ◌+◌, ◌++◌, ◌∷◌, [], pos, true≢false, ap, sym, subst, ◌∙◌, IsSomeAnd, Pair, IsNearest, IsSwept}
 use Rattle.topology.proofs.SweepLemmas.{sweep_keeps, sweep_merges}
 use Rattle.topology.proofs.merging.sweep.Goals as goal
 

@@ -1,5 +1,4 @@
-use Rattle.std.proofs.Common.{sym, subst, arith}
-use Rattle.topology.specs.LiveClusters.{IsMerging}
+use Rattle.topology.proofs.Vocabulary.{sym, subst, arith, IsMerging}
 use Rattle.topology.proofs.SweepLemmas.{sweep_ends, sweep_starts}
 use Rattle.topology.proofs.merging.swept.Goals as goal
 

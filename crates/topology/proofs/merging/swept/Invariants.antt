@@ -1,5 +1,4 @@
-use Rattle.std.proofs.Common.{◌+◌, ◌-◌, length}
-use Rattle.topology.specs.LiveClusters.{IsSwept}
+use Rattle.topology.proofs.Vocabulary.{◌+◌, ◌-◌, length, IsSwept}
 use Rattle.topology.proofs.merging.swept.Given as goal
 
 -- the nodes so far are swept

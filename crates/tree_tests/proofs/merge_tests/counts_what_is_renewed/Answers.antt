@@ -1,8 +1,4 @@
-use Rattle.std.proofs.Common.{◌≡◌, ◌-◌, ◌∙◌, length, sym, ap, subst, arith}
-use Rattle.std.proofs.lemmas.List.{length-set}
-use Rattle.cts_model.specs.tree.Topologies.{IsTopology}
-use Rattle.merge_up.specs.Merging.{IsMerged, IsRenewed}
-use Rattle.merge_up.proofs.WorkLemmas.{joined_held}
+use Rattle.tree_tests.proofs.Vocabulary.{◌≡◌, ◌-◌, ◌∙◌, length, sym, ap, subst, arith, length-set, IsTopology, IsMerged, IsRenewed, joined_held}
 use Rattle.tree_tests.proofs.HeldForOthers.{JoinsAt, held_lower, tree_sinks_set}
 use Rattle.tree_tests.proofs.merge_tests.counts_what_is_renewed.Goals as goal
 

@@ -1,7 +1,4 @@
-use Rattle.std.proofs.Common.{◌≡◌, ◌-◌, ◌∙◌, length, sym, subst, arith}
-use Rattle.cts_model.specs.tree.Topologies.{IsTopology}
-use Rattle.merge_up.specs.Merging.{HoldsMerge}
-use Rattle.merge_up.proofs.WorkLemmas.{joined_held}
+use Rattle.tree_tests.proofs.Vocabulary.{◌≡◌, ◌-◌, ◌∙◌, length, sym, subst, arith, IsTopology, HoldsMerge, joined_held}
 use Rattle.tree_tests.proofs.merge_tests.renews_what_is_above_a_moved_sink.Goals as goal
 
 pub renew-requires-clause-joined : goal.renew-requires-clause-joined

@@ -1,6 +1,4 @@
-use Rattle.std.proofs.Common.{sym, subst}
-use Rattle.cts_model.specs.tree.Sinks.{AreTreeSinks}
-use Rattle.merge_up.specs.Merging.{IsMerged, IsSinkSet}
+use Rattle.tree_tests.proofs.Vocabulary.{sym, subst, AreTreeSinks, IsMerged, IsSinkSet}
 use Rattle.tree_tests.proofs.HeldForOthers.{JoinsAt}
 use Rattle.tree_tests.proofs.OnceSet.{far, merged_once_set, near, these, tree_sinks_far, tree_sinks_near}
 use Rattle.tree_tests.proofs.place_down_tests.places_once_a_sink_is_set.Goals as goal

@@ -1,6 +1,5 @@
-use Rattle.std.proofs.Common.{◌≡◌, length}
+use Rattle.tree_tests.proofs.Vocabulary.{◌≡◌, length, IsTreeSink}
 use Rattle.std.specs.Prelude.{All}
-use Rattle.cts_model.specs.tree.Sinks.{IsTreeSink}
 use Rattle.tree_tests.proofs.trees.sinks_of.Given as goal
 
 abbrev pub invariant-loop-place : goal.invariant-loop-place

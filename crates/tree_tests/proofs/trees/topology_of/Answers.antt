@@ -1,6 +1,4 @@
-use Rattle.std.proofs.Common.{◌≡◌, ◌+◌, ◌++◌, ◌∷◌, [], length, ap, sym, subst, length-append, arith}
-use Rattle.cts_model.specs.tree.Topologies.{IsMerge}
-use Rattle.cts_model.proofs.TopologyLemmas.{EachMerge, EachMerge-push}
+use Rattle.tree_tests.proofs.Vocabulary.{◌≡◌, ◌+◌, ◌++◌, ◌∷◌, [], length, ap, sym, subst, length-append, arith, IsMerge, EachMerge, EachMerge-push}
 use Rattle.tree_tests.proofs.trees.topology_of.Goals as goal
 
 pub loop-nodes-preserved : goal.loop-nodes-preserved

@@ -1,5 +1,4 @@
-use Rattle.std.proofs.Common.{◌≡◌, length}
-use Rattle.cts_model.proofs.TopologyLemmas.{EachMerge}
+use Rattle.tree_tests.proofs.Vocabulary.{◌≡◌, length, EachMerge}
 use Rattle.tree_tests.proofs.trees.topology_of.Given as goal
 
 abbrev pub invariant-loop-nodes : goal.invariant-loop-nodes

@@ -1,5 +1,4 @@
-use Rattle.std.proofs.Common.{◌≡◌, ◌+ℤ◌, ◌-ℤ◌, ◌∙◌}
-use Rattle.cts_model.specs.placement.Points.{distance}
+use Rattle.wire_detours.proofs.Vocabulary.{◌≡◌, ◌+ℤ◌, ◌-ℤ◌, ◌∙◌, distance}
 use Rattle.wire_detours.proofs.DetourLemmas.{is_enough, beyond_fits, beyond_is, beyond_even, half_twice, half_positive, half_below, half_even}
 use Rattle.wire_detours.proofs.edge.detour.Goals as goal
 

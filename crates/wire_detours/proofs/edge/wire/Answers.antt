@@ -1,7 +1,4 @@
-use Rattle.std.proofs.Common.{◌≡◌, ◌+ℤ◌, sym, subst, rules, arith}
-use Rattle.std.proofs.lemmas.Int.{ints}
-use Rattle.cts_model.specs.placement.Points.{distance}
-use Rattle.wire_detours.specs.WirePoints.{HasDetour}
+use Rattle.wire_detours.proofs.Vocabulary.{◌≡◌, ◌+ℤ◌, sym, subst, rules, arith, ints, distance, HasDetour}
 use Rattle.wire_detours.proofs.DetourLemmas.{kept}
 use Rattle.wire_detours.proofs.TableLemmas.{IsEdgeWire, wire_shortest, wire_around, wire_beside, wire_round}
 use Rattle.wire_detours.proofs.edge.wire.Goals as goal

@@ -1,9 +1,5 @@
-use Rattle.std.proofs.Common.{[], refl, ap}
-use Rattle.std.proofs.lemmas.Result.{err_from_is_err_and}
-use Rattle.std.proofs.lemmas.List.Elements.{All-nil}
+use Rattle.bench_reader.proofs.Vocabulary.{[], refl, ap, err_from_is_err_and, All-nil, Input, Assign, uses_of, said_by}
 use Rattle.cts_model.specs.declared.kind.Kind.TheVariants as kinds
-use Rattle.cts_model.specs.netlist.Statements.{Input, Assign, uses_of}
-use Rattle.bench_reader.specs.View.{said_by}
 use Rattle.bench_reader.proofs.AddedParts.{blank_denoted, defining_denoted, output_denoted}
 use Rattle.bench_reader.proofs.FanIns.{misses_use}
 use Rattle.bench_reader.proofs.circuit_parts.CircuitParts.add.Goals as goal

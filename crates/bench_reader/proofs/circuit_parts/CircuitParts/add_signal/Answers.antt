@@ -1,5 +1,4 @@
-use Rattle.std.proofs.Common.{◌∷◌, ◌++◌, [], sym, ap, ◌∙◌}
-use Rattle.std.proofs.lemmas.Result.{on_ok_weaker}
+use Rattle.bench_reader.proofs.Vocabulary.{◌∷◌, ◌++◌, [], sym, ap, ◌∙◌, on_ok_weaker}
 use Rattle.bench_reader.proofs.PartLists.{registers_stay, registers_grow}
 use Rattle.bench_reader.proofs.circuit_parts.CircuitParts.add_signal.Goals as goal
 

@@ -1,6 +1,5 @@
-use Rattle.std.proofs.Common.{[], sym, refl, ◌∙◌}
+use Rattle.bench_reader.proofs.Vocabulary.{[], sym, refl, ◌∙◌, Blank, Input, Output, Assign}
 use Rattle.cts_model.specs.declared.kind.Kind.TheVariants as kinds
-use Rattle.cts_model.specs.netlist.Statements.{Blank, Input, Output, Assign}
 use Rattle.bench_reader.proofs.DefiningLines.{silent_adds, defining_adds}
 use Rattle.bench_reader.proofs.definitions.Definitions.add.Goals as goal
 

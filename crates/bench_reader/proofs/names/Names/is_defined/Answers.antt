@@ -1,6 +1,4 @@
-use Rattle.std.proofs.Common.{sym, ◌∙◌}
-use Rattle.std.specs.Str.{bytes_eq}
-use Rattle.cts_base.proofs.ListTests.{list_any-map}
+use Rattle.bench_reader.proofs.Vocabulary.{sym, ◌∙◌, bytes_eq, list_any-map}
 use Rattle.bench_reader.proofs.names.Names.is_defined.Goals as goal
 
 pub returns : goal.returns

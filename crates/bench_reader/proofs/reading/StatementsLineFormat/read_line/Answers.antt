@@ -1,7 +1,4 @@
-use Rattle.std.specs.Option.{option_map, option_to_list}
-use Rattle.std.proofs.Common.{◌≡◌, ◌∙◌, ◌+◌, ◌++◌, length, sym, arith}
-use Rattle.std.proofs.lemmas.Result.{on_ok_weaker}
-use Rattle.bench_reader.specs.Said.{unless_blank}
+use Rattle.bench_reader.proofs.Vocabulary.{option_map, option_to_list, ◌≡◌, ◌∙◌, ◌+◌, ◌++◌, length, sym, arith, on_ok_weaker, unless_blank}
 use Rattle.bench_reader.proofs.SaidLemmas.{said_in-push}
 use Rattle.bench_reader.proofs.reading.StatementsLineFormat.read_line.Goals as goal
 

@@ -1,5 +1,4 @@
-use Rattle.std.proofs.Common.{◌≡◌}
-use Rattle.bench_reader.specs.Inputs.{words_in}
+use Rattle.bench_reader.proofs.Vocabulary.{◌≡◌, words_in}
 use Rattle.bench_reader.proofs.token.Tokens.next_word.Given as goal
 
 abbrev pub invariant-loop-token : goal.invariant-loop-token

@@ -1,6 +1,4 @@
-use Rattle.std.proofs.Common.{refl}
-use mir.Syntax.{w128}
-use Rattle.std.proofs.lemmas.Int.{to_z-of_z}
+use Rattle.cert_check.proofs.Vocabulary.{refl, w128, to_z-of_z}
 use Rattle.cert_check.proofs.WayLemmas.{drawn_exactly}
 use Rattle.cert_check.proofs.drawn.Way.is_drawn.Goals as goal
 

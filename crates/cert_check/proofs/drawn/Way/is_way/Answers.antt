@@ -1,6 +1,5 @@
 -- Goals that `grind` closes at once, and that `search` tries for long.
-use Rattle.std.proofs.Common.{arith}
-use Rattle.std.proofs.lemmas.Grind.{common_steps}
+use Rattle.cert_check.proofs.Vocabulary.{arith, common_steps}
 use Rattle.cert_check.proofs.drawn.Way.is_way.Goals as goal
 
 pub returns-then-is_free : goal.returns-then-is_free

@@ -1,8 +1,5 @@
 -- The arrival is kept as it is.
-use Rattle.std.proofs.Common.{◌^◌, pos, get_or, to_z, of_z, ap, subst, sym, ◌∙◌, arith}
-use mir.Syntax.{w128}
-use Rattle.std.proofs.lemmas.Int.{ints, to_z-of_z}
-use Rattle.cts_model.specs.placement.Points.{IsBelow}
+use Rattle.cert_check.proofs.Vocabulary.{◌^◌, pos, get_or, to_z, of_z, ap, subst, sym, ◌∙◌, arith, w128, ints, to_z-of_z, IsBelow}
 use Rattle.cert_check.proofs.judge.Judge.arrival.Goals as goal
 
 pub returns-clause-small : goal.returns-clause-small

@@ -1,7 +1,6 @@
 -- The pairs are those of the constraints.
-use Rattle.std.proofs.Common.{◌<◌, ◌∙◌, ℕ, All, length, subst, sym}
+use Rattle.cert_check.proofs.Vocabulary.{◌<◌, ◌∙◌, ℕ, All, length, subst, sym, AreDelaysBetween}
 use Rattle.std.specs.Result.{IfOk}
-use Rattle.path_delays.specs.JoinedPairs.{AreDelaysBetween}
 use Rattle.cert_check.proofs.ConstraintTests.{pairs_among}
 use Rattle.cert_check.proofs.judge.Judge.delays_of.Goals as goal
 

@@ -1,12 +1,5 @@
 -- Each kind of show.
-use Rattle.std.proofs.Common.{◌≡◌, ◌↔◌, ◌<◌, ◌+ℤ◌, IsTrue, length, pos, get_or, sym, subst, ◌∙◌, arith}
-use mir.Syntax.{w128}
-use Rattle.std.proofs.lemmas.Bool.{false≢true}
-use Rattle.std.proofs.lemmas.Int.{ints, to_z-of_z}
-use Rattle.cts_model.specs.declared.place.Sink.{Sink}
-use Rattle.cts_model.specs.placement.Points.{rotated_distance}
-use Rattle.cts_model.specs.report.ReportLines.{number_at}
-use Rattle.cts_model.specs.tree.Topologies.{source_of}
+use Rattle.cert_check.proofs.Vocabulary.{◌≡◌, ◌↔◌, ◌<◌, ◌+ℤ◌, IsTrue, length, pos, get_or, sym, subst, ◌∙◌, arith, w128, false≢true, ints, to_z-of_z, Sink, rotated_distance, number_at, source_of}
 use Rattle.cert_check.proofs.ShowLemmas.{denotes_found}
 use Rattle.cert_check.proofs.judge.Judge.gives_source.Goals as goal
 

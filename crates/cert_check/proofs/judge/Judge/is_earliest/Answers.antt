@@ -1,6 +1,5 @@
 -- The arrival isn't below 0.
-use Rattle.std.proofs.Common.{rules, pos, ◌≤ℤ◌}
-use Rattle.cts_model.specs.timing.Schedules.{arrival_of}
+use Rattle.cert_check.proofs.Vocabulary.{rules, pos, ◌≤ℤ◌, arrival_of}
 use Rattle.cert_check.proofs.judge.Judge.is_earliest.Goals as goal
 
 pub returns-then-arrival-ge0 : goal.returns-then-arrival-ge0

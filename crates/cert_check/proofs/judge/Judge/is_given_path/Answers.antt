@@ -1,7 +1,5 @@
 -- The constraint and the path stand at the place.
-use Rattle.std.proofs.Common.{◌≡◌, ◌<◌, ◌≤◌, ◌⊎◌, ◌↔◌, [], All, IsTrue, Some, ap, length, subst, sym, ◌∙◌}
-use Rattle.std.specs.Prelude.{IfSome, slice_get}
-use Rattle.cts_model.specs.report.ReportBounds.{IsBetweenRegisters}
+use Rattle.cert_check.proofs.Vocabulary.{◌≡◌, ◌<◌, ◌≤◌, ◌⊎◌, ◌↔◌, [], All, IsTrue, Some, ap, length, subst, sym, ◌∙◌, IfSome, slice_get, IsBetweenRegisters}
 use Rattle.cts_model.specs.timing.ConstraintPaths.{GivesWeight}
 use Rattle.cert_check.proofs.FirstPlaces.{at_place}
 use Rattle.cert_check.proofs.judge.Judge.is_given_path.Goals as goal

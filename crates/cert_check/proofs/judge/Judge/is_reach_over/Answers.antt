@@ -1,6 +1,5 @@
 -- The numbers are compared as they are.
-use Rattle.std.proofs.Common.{arith}
-use Rattle.std.proofs.lemmas.Int.{ints}
+use Rattle.cert_check.proofs.Vocabulary.{arith, ints}
 use Rattle.cert_check.proofs.ShowLemmas.{kept_at}
 use Rattle.cert_check.proofs.judge.Judge.is_reach_over.Goals as goal
 

@@ -1,7 +1,5 @@
 -- The differences are compared as they are.
-use Rattle.std.proofs.Common.{◌-ℤ◌, ◌*ℤ◌, ◌∙◌, arith}
-use mir.Syntax.{w128}
-use Rattle.std.proofs.lemmas.Int.{ints, to_z-of_z}
+use Rattle.cert_check.proofs.Vocabulary.{◌-ℤ◌, ◌*ℤ◌, ◌∙◌, arith, w128, ints, to_z-of_z}
 use Rattle.cert_check.proofs.judge.Judge.is_tight.Goals as goal
 
 pub overflow_sub-head : goal.overflow_sub-head

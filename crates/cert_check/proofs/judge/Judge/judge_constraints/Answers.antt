@@ -1,6 +1,5 @@
 -- One constraint more.
-use Rattle.std.proofs.Common.{refl}
-use Rattle.cert_check.specs.JudgedReports.{OfCircuit}
+use Rattle.cert_check.proofs.Vocabulary.{refl, OfCircuit}
 use Rattle.cert_check.proofs.FirstPlaces.{each_more, fails_here}
 use Rattle.cert_check.proofs.judge.Judge.judge_constraints.Goals as goal
 

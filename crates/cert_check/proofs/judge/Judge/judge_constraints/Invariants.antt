@@ -1,6 +1,5 @@
 -- The constraints so far are those of the circuit.
-use Rattle.cts_model.specs.report.Shown.{AtEach}
-use Rattle.cert_check.specs.JudgedReports.{OfCircuit}
+use Rattle.cert_check.proofs.Vocabulary.{AtEach, OfCircuit}
 use Rattle.cert_check.proofs.judge.Judge.judge_constraints.Given as goal
 
 abbrev pub invariant-loop-place : goal.invariant-loop-place

@@ -1,11 +1,5 @@
 -- The test of a tight lead is that of its constraint.
-use Rattle.std.proofs.Common.{◌≡◌, ◌↔◌, ◌∷◌, [], All, IsTrue, length, take, get_or, refl, rules, ap, subst, sym, ◌∙◌, arith}
-use Rattle.std.proofs.lemmas.List.{length-append}
-use Rattle.cts_model.specs.declared.schedule.Lead.TheVariants.{Zero}
-use Rattle.cts_model.specs.report.Judgements.{IsOfCircuit}
-use Rattle.cts_model.specs.report.ReportBounds.{IsBetweenRegisters}
-use Rattle.cert_check.specs.JudgedReports.{Earliest}
-use Rattle.cert_check.specs.TightLeads.{tight_constraints}
+use Rattle.cert_check.proofs.Vocabulary.{◌≡◌, ◌↔◌, ◌∷◌, [], All, IsTrue, length, take, get_or, refl, rules, ap, subst, sym, ◌∙◌, arith, length-append, Zero, IsOfCircuit, IsBetweenRegisters, Earliest, tight_constraints}
 use Rattle.cert_check.proofs.FirstPlaces.{denied, each_more}
 use Rattle.cert_check.proofs.JudgeFacts.{listed_count, listed_second, second_count}
 use Rattle.cert_check.proofs.TightLemmas.{tight_among, tight_more, tight_tested}

@@ -1,7 +1,5 @@
 -- The leads so far show that nothing is earlier, and so many of their constraints are passed.
-use Rattle.std.proofs.Common.{◌≡◌, ◌≤◌}
-use Rattle.cts_model.specs.report.Shown.{AtEach}
-use Rattle.cert_check.specs.JudgedReports.{Earliest}
+use Rattle.cert_check.proofs.Vocabulary.{◌≡◌, ◌≤◌, AtEach, Earliest}
 use Rattle.cert_check.proofs.TightLemmas.{tight_before}
 use Rattle.cert_check.proofs.judge.Judge.judge_leads.Given as goal
 

@@ -1,6 +1,5 @@
 -- The paths so far give the constraints their weights.
-use Rattle.cts_model.specs.report.Shown.{AtEach}
-use Rattle.cert_check.specs.JudgedReports.{GivenPath}
+use Rattle.cert_check.proofs.Vocabulary.{AtEach, GivenPath}
 use Rattle.cert_check.proofs.judge.Judge.judge_paths.Given as goal
 
 abbrev pub invariant-loop-place : goal.invariant-loop-place

@@ -1,7 +1,5 @@
 -- The slacks are those of the register.
-use Rattle.std.proofs.Common.{refl, arith}
-use Rattle.cert_check.specs.ComparedSlacks.{HasSlackRoom}
-use Rattle.cert_check.specs.JudgedReports.{Meets}
+use Rattle.cert_check.proofs.Vocabulary.{refl, arith, HasSlackRoom, Meets}
 use Rattle.cert_check.proofs.FirstPlaces.{denied, each_more}
 use Rattle.cert_check.proofs.SlackLemmas.{room_meets}
 use Rattle.cert_check.proofs.judge.Judge.judge_schedule.Goals as goal

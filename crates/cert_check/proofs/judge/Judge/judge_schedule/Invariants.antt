@@ -1,6 +1,5 @@
 -- The paths to the registers so far meet the period.
-use Rattle.cts_model.specs.report.Shown.{AtEach}
-use Rattle.cert_check.specs.JudgedReports.{Meets}
+use Rattle.cert_check.proofs.Vocabulary.{AtEach, Meets}
 use Rattle.cert_check.proofs.judge.Judge.judge_schedule.Given as goal
 
 abbrev pub invariant-loop-register : goal.invariant-loop-register

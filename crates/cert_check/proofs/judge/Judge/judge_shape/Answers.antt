@@ -1,12 +1,5 @@
 -- The sinks, the merges and the source are all the nodes.
-use Rattle.std.proofs.Common.{◌+◌, ◌*◌, length, subst, arith}
-use Rattle.std.specs.Prelude.{Err}
-use Rattle.cts_model.specs.report.Judgements.{HasShape}
-use Rattle.cts_model.specs.report.Shown.{AtEach}
-use Rattle.cts_model.specs.tree.Embeddings.{embedding_of}
-use Rattle.cert_check.specs.EmbeddingParts.{JoinsAt}
-use Rattle.cert_check.specs.declared.verdict.Reason.TheVariants.{TreeShape}
-use Rattle.cert_check.specs.Judged.{Judges}
+use Rattle.cert_check.proofs.Vocabulary.{◌+◌, ◌*◌, length, subst, arith, Err, HasShape, AtEach, embedding_of, JoinsAt, TreeShape, Judges}
 use Rattle.cert_check.proofs.FirstPlaces.{passed_on}
 use Rattle.cert_check.proofs.ShapeLemmas.{merges_stop, source_decides, source_topology}
 use Rattle.cert_check.proofs.judge.Judge.judge_shape.Goals as goal

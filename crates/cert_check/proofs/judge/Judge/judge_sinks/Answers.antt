@@ -1,7 +1,5 @@
 -- One sink more.
-use Rattle.std.proofs.Common.{refl}
-use Rattle.cert_check.specs.EmbeddingParts.{StandsAt}
-use Rattle.cert_check.specs.JudgedReports.{tree_of}
+use Rattle.cert_check.proofs.Vocabulary.{refl, StandsAt, tree_of}
 use Rattle.cert_check.proofs.FirstPlaces.{each_more, fails_here}
 use Rattle.cert_check.proofs.ShapeLemmas.{stands_by}
 use Rattle.cert_check.proofs.judge.Judge.judge_sinks.Goals as goal

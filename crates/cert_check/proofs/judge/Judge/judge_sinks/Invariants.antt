@@ -1,7 +1,5 @@
 -- The sinks so far are at their places.
-use Rattle.cert_check.specs.EmbeddingParts.{StandsAt}
-use Rattle.cts_model.specs.report.Shown.{AtEach}
-use Rattle.cert_check.specs.JudgedReports.{tree_of}
+use Rattle.cert_check.proofs.Vocabulary.{StandsAt, AtEach, tree_of}
 use Rattle.cert_check.proofs.judge.Judge.judge_sinks.Given as goal
 
 abbrev pub invariant-loop-register : goal.invariant-loop-register

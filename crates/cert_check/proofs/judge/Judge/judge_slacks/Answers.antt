@@ -1,7 +1,5 @@
 -- The slacks are those of the register, and so are the printed ones.
-use Rattle.std.proofs.Common.{refl, arith}
-use Rattle.cert_check.specs.ComparedSlacks.{AreOneSlack}
-use Rattle.cert_check.specs.JudgedReports.{Spares}
+use Rattle.cert_check.proofs.Vocabulary.{refl, arith, AreOneSlack, Spares}
 use Rattle.cert_check.proofs.FirstPlaces.{denied, each_more}
 use Rattle.cert_check.proofs.SlackLemmas.{prints_slack}
 use Rattle.cert_check.proofs.judge.Judge.judge_slacks.Goals as goal

@@ -1,8 +1,6 @@
 -- The lead is the register's.
-use Rattle.std.proofs.Common.{◌↔◌, IsTrue, subst, sym, ◌∙◌}
-use Rattle.cts_model.specs.timing.Constraints.{IsConstraintOf}
+use Rattle.cert_check.proofs.Vocabulary.{◌↔◌, IsTrue, subst, sym, ◌∙◌, IsConstraintOf, IsTested}
 use Rattle.cts_model.specs.timing.Leads.{ShowsEarliest}
-use Rattle.cert_check.specs.TightLeads.{IsTested}
 use Rattle.cert_check.proofs.judge.Judge.shows_earliest.Goals as goal
 
 pub is_led-requires-clause-fits : goal.is_led-requires-clause-fits

@@ -1,9 +1,5 @@
 -- The show of the source, as it is read.
-use Rattle.std.proofs.Common.{◌↔◌, IsTrue, length, refl, subst, arith}
-use Rattle.std.specs.Prelude.{IsSomeAnd, slice_get}
-use Rattle.cts_model.specs.report.ReportLines.{number_at}
-use Rattle.cts_model.specs.tree.ShownReaches.{ShowsSource}
-use Rattle.cts_model.specs.tree.Topologies.{root_of, source_of}
+use Rattle.cert_check.proofs.Vocabulary.{◌↔◌, IsTrue, length, refl, subst, arith, IsSomeAnd, slice_get, number_at, ShowsSource, root_of, source_of}
 use Rattle.cert_check.proofs.ShowLemmas.{denotes_source}
 use Rattle.cert_check.proofs.judge.Judge.shows_source.Goals as goal
 

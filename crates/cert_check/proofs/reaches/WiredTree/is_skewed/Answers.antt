@@ -1,9 +1,5 @@
 -- Two differences, as the code keeps them; wires down are one.
-use Rattle.std.proofs.Common.{◌^◌, pos, arith}
-use Rattle.std.proofs.lemmas.Int.{ints}
-use Rattle.cts_model.specs.declared.place.Sink.{Sink}
-use Rattle.cts_model.specs.report.ReportLines.{number_at}
-use Rattle.cert_check.specs.JudgedReports.{tree_of}
+use Rattle.cert_check.proofs.Vocabulary.{◌^◌, pos, arith, ints, Sink, number_at, tree_of}
 use Rattle.cert_check.proofs.ReachLemmas.{denotes_level, skewed_level}
 use Rattle.cert_check.proofs.ShowLemmas.{kept_below}
 use Rattle.cert_check.proofs.reaches.WiredTree.is_skewed.Goals as goal

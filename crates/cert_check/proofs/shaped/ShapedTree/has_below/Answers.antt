@@ -1,6 +1,5 @@
 -- One edge up.
-use Rattle.std.proofs.Common.{arith}
-use Rattle.std.proofs.lemmas.Bool.{eq-eqb, eqb-true}
+use Rattle.cert_check.proofs.Vocabulary.{arith, eq-eqb, eqb-true}
 use Rattle.cert_check.proofs.ClimbLemmas.{climb_end, climb_next, climb_start}
 use Rattle.cert_check.proofs.shaped.ShapedTree.has_below.Goals as goal
 

@@ -1,10 +1,5 @@
 -- The wire is drawn from the one parent.
-use Rattle.std.proofs.Common.{◌≡◌, pos, [], get_or, to_z, of_z, arith}
-use mir.Syntax.{w128}
-use Rattle.std.proofs.lemmas.Int.{ints}
-use Rattle.std.proofs.lemmas.Option.{slice_get-get_or}
-use Rattle.cts_model.specs.declared.tree.Wire.{Wire}
-use Rattle.cert_check.specs.JudgedReports.{tree_of}
+use Rattle.cert_check.proofs.Vocabulary.{◌≡◌, pos, [], get_or, to_z, of_z, arith, w128, ints, slice_get-get_or, Wire, tree_of}
 use Rattle.cert_check.proofs.EdgeLemmas.{drawn_same}
 use Rattle.cert_check.proofs.shaped.ShapedTree.is_drawn_edge.Goals as goal
 

@@ -1,6 +1,5 @@
 -- The edge is from the one parent.
-use Rattle.std.proofs.Common.{arith}
-use Rattle.cert_check.specs.JudgedReports.{tree_of}
+use Rattle.cert_check.proofs.Vocabulary.{arith, tree_of}
 use Rattle.cert_check.proofs.EdgeLemmas.{reaches_same}
 use Rattle.cert_check.proofs.shaped.ShapedTree.is_long_enough.Goals as goal
 

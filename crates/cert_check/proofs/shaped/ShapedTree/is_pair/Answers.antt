@@ -1,10 +1,5 @@
 -- What is said of both sinks.
-use Rattle.std.proofs.Common.{◌≡◌, ◌↔◌, ◌+ℤ◌, IsTrue, pos, get_or, subst, ◌∙◌, arith}
-use mir.Syntax.{w128}
-use Rattle.std.proofs.lemmas.Int.{ints, to_z-of_z}
-use Rattle.cts_model.specs.declared.place.Sink.{Sink}
-use Rattle.cts_model.specs.report.ReportLines.{number_at}
-use Rattle.cts_model.specs.tree.Regions.{span}
+use Rattle.cert_check.proofs.Vocabulary.{◌≡◌, ◌↔◌, ◌+ℤ◌, IsTrue, pos, get_or, subst, ◌∙◌, arith, w128, ints, to_z-of_z, Sink, number_at, span}
 use Rattle.cert_check.proofs.ShowLemmas.{denotes_span}
 use Rattle.cert_check.proofs.shaped.ShapedTree.is_pair.Goals as goal
 

@@ -1,6 +1,5 @@
 -- The edges so far are long enough.
-use Rattle.cts_model.specs.report.Shown.{AtEach}
-use Rattle.cert_check.specs.JudgedReports.{LongEnough}
+use Rattle.cert_check.proofs.Vocabulary.{AtEach, LongEnough}
 use Rattle.cert_check.proofs.shaped.ShapedTree.judge_lengths.Given as goal
 
 abbrev pub invariant-loop-edge : goal.invariant-loop-edge

@@ -1,6 +1,5 @@
 -- The reaches of the nodes so far are shown.
-use Rattle.cts_model.specs.report.Shown.{AtEach}
-use Rattle.cert_check.specs.JudgedReports.{HasReach}
+use Rattle.cert_check.proofs.Vocabulary.{AtEach, HasReach}
 use Rattle.cert_check.proofs.shaped.ShapedTree.judge_reaches.Given as goal
 
 abbrev pub invariant-loop-node : goal.invariant-loop-node

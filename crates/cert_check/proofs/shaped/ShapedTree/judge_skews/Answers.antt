@@ -1,9 +1,5 @@
 -- One more.
-use Rattle.std.proofs.Common.{◌≡◌, ◌*◌, ◌^◌, All, length, refl, subst, sym}
-use Rattle.cts_model.specs.placement.Points.{IsBelow}
-use Rattle.cts_model.specs.report.ReportLines.{number_at}
-use Rattle.cts_model.specs.tree.Embeddings.{AreWiresDown}
-use Rattle.cert_check.specs.JudgedReports.{Skewed}
+use Rattle.cert_check.proofs.Vocabulary.{◌≡◌, ◌*◌, ◌^◌, All, length, refl, subst, sym, IsBelow, number_at, AreWiresDown, Skewed}
 use Rattle.cert_check.proofs.FirstPlaces.{each_more, fails_here}
 use Rattle.cert_check.proofs.shaped.ShapedTree.judge_skews.Goals as goal
 

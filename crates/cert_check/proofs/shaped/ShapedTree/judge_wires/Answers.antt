@@ -1,6 +1,5 @@
 -- One more.
-use Rattle.std.proofs.Common.{arith}
-use Rattle.cert_check.specs.JudgedReports.{Drawn}
+use Rattle.cert_check.proofs.Vocabulary.{arith, Drawn}
 use Rattle.cert_check.proofs.FirstPlaces.{each_more}
 use Rattle.cert_check.proofs.shaped.ShapedTree.judge_wires.Goals as goal
 

@@ -1,8 +1,5 @@
 -- The listed parent is the node's.
-use Rattle.std.proofs.Common.{◌<◌, ◌*◌, length, sym, subst, ◌∙◌}
-use Rattle.std.proofs.lemmas.List.{get_or_default}
-use Rattle.cts_model.specs.tree.Topologies.{IsParent}
-use Rattle.cts_model.proofs.ParentLemmas.{parent_above}
+use Rattle.cert_check.proofs.Vocabulary.{◌<◌, ◌*◌, length, sym, subst, ◌∙◌, get_or_default, IsParent, parent_above}
 use Rattle.cert_check.proofs.EdgeLemmas.{listed}
 use Rattle.cert_check.proofs.shaped.ShapedTree.parent_of.Goals as goal
 

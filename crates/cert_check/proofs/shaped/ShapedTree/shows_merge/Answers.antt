@@ -1,8 +1,5 @@
 -- The show of the merge, as it is read.
-use Rattle.std.proofs.Common.{◌+◌, length, arith}
-use Rattle.cts_model.specs.report.ReportLines.{number_at}
-use Rattle.cts_model.specs.tree.ShownReaches.{ShowsMerge}
-use Rattle.cts_model.specs.tree.Topologies.{numbers_below}
+use Rattle.cert_check.proofs.Vocabulary.{◌+◌, length, arith, number_at, ShowsMerge, numbers_below}
 use Rattle.cert_check.proofs.ShowLemmas.{denotes_found}
 use Rattle.cert_check.proofs.shaped.ShapedTree.shows_merge.Goals as goal
 

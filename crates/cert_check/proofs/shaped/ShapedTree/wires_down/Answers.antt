@@ -1,9 +1,5 @@
 -- One node more.
-use Rattle.std.proofs.Common.{◌+◌, ◌-◌, ◌^◌, All, length, sym, subst, arith}
-use Rattle.std.proofs.lemmas.Grind.{common_steps}
-use Rattle.cts_model.specs.placement.Points.{IsBelow}
-use Rattle.cts_model.specs.tree.Embeddings.{AreWiresDown}
-use Rattle.cts_model.specs.report.ReportLines.{number_at}
+use Rattle.cert_check.proofs.Vocabulary.{◌+◌, ◌-◌, ◌^◌, All, length, sym, subst, arith, common_steps, IsBelow, AreWiresDown, number_at}
 use Rattle.cert_check.proofs.DownLemmas.{Handed, handed_all, handed_small, handed_turn}
 use Rattle.cert_check.proofs.shaped.ShapedTree.wires_down.Goals as goal
 

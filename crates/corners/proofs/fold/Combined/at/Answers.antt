@@ -1,6 +1,6 @@
 -- A turn adds what stands at one place more.
-use Rattle.std.proofs.Common.{◌<◌, All, length, sym}
-use Rattle.std.proofs.lemmas.List.{take_all}
+use Rattle.corners.proofs.Vocabulary.{◌<◌, length, sym, take_all}
+use Rattle.std.proofs.Common.{All}
 use Rattle.corners.proofs.CornerPlaces.{at_places_more}
 use Rattle.corners.proofs.fold.Combined.at.Goals as goal
 

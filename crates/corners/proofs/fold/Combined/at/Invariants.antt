@@ -1,6 +1,5 @@
 -- What stands at the places so far.
-use Rattle.std.proofs.Common.{take}
-use Rattle.corners.specs.NamedPlaces.{AreNamedAt}
+use Rattle.corners.proofs.Vocabulary.{take, AreNamedAt}
 use Rattle.corners.proofs.fold.Combined.at.Given as goal
 
 abbrev pub invariant-loop-place : goal.invariant-loop-place

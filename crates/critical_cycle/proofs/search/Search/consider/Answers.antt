@@ -1,8 +1,5 @@
 -- The cycle comes last in the list, and shows more than was shown.
-use Rattle.std.proofs.Common.{◌≡◌, ◌∙◌, ap, subst, sym, refl, arith, drop, length}
-use Rattle.std.specs.Vec.{with_items}
-use Rattle.std.proofs.lemmas.List.{with_items_is}
-use Rattle.critical_cycle.specs.ShownRatios.{IsShown}
+use Rattle.critical_cycle.proofs.Vocabulary.{◌≡◌, ◌∙◌, ap, subst, sym, refl, arith, drop, length, with_items, with_items_is, IsShown}
 use Rattle.critical_cycle.proofs.SearchLemmas.{can_try, raise_shows}
 use Rattle.critical_cycle.proofs.search.Search.consider.Goals as goal
 

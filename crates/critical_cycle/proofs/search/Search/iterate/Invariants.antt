@@ -1,5 +1,4 @@
-use Rattle.std.proofs.Common.{◌≡◌, length}
-use Rattle.critical_cycle.specs.Searches.{IsSameSearch, IsSearch}
+use Rattle.critical_cycle.proofs.Vocabulary.{◌≡◌, length, IsSameSearch, IsSearch}
 use Rattle.critical_cycle.proofs.search.Search.iterate.Given as goal
 
 abbrev pub invariant-loop-round : goal.invariant-loop-round

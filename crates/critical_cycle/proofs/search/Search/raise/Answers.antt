@@ -1,11 +1,5 @@
 -- The ring is a cycle with a total above 0, which shows more than the ratio.
-use Rattle.std.proofs.Common.{◌≡◌, ◌∙◌, ap, subst, sym, refl, arith, drop, length}
-use Rattle.std.specs.Vec.{with_items}
-use Rattle.std.proofs.lemmas.List.{with_items_is}
-use Rattle.critical_cycle.specs.CyclePlaces.{constraints_at}
-use Rattle.critical_cycle.specs.Raises.{IsRaise}
-use Rattle.critical_cycle.specs.ShownRatios.{IsShown}
-use Rattle.relaxation.specs.Parents.{AreParents}
+use Rattle.critical_cycle.proofs.Vocabulary.{◌≡◌, ◌∙◌, ap, subst, sym, refl, arith, drop, length, with_items, with_items_is, constraints_at, IsRaise, IsShown, AreParents}
 use Rattle.critical_cycle.proofs.SearchLemmas.{can_try, not_kept, raise_shows}
 use Rattle.critical_cycle.proofs.search.Search.raise.Goals as goal
 

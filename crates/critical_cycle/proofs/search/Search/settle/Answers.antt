@@ -1,7 +1,5 @@
 -- A trial settles the greatest ratio shown, or a register is far up its parents.
-use Rattle.std.proofs.Common.{subst}
-use Rattle.relaxation.specs.Parents.{value_of}
-use Rattle.critical_cycle.specs.ShownRatios.{IsSettled}
+use Rattle.critical_cycle.proofs.Vocabulary.{subst, value_of, IsSettled}
 use Rattle.critical_cycle.proofs.SearchLemmas.{outcome, settled_at}
 use Rattle.critical_cycle.proofs.search.Search.settle.Goals as goal
 

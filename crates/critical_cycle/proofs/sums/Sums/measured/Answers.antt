@@ -1,10 +1,6 @@
 -- Products are small, so the code's difference is that of the products.
-use Rattle.std.proofs.Common.{◌≡◌, ◌^◌, ◌∙◌, ℤ, ◌-ℤ◌, ◌*ℤ◌, ap, arith}
-use Rattle.std.proofs.lemmas.Int.{ints}
-use Rattle.cts_model.specs.placement.Points.{IsBelow}
-use Rattle.critical_cycle.specs.declared.measure.Measure.{Measure}
+use Rattle.critical_cycle.proofs.Vocabulary.{◌≡◌, ◌^◌, ◌∙◌, ℤ, ◌-ℤ◌, ◌*ℤ◌, ap, arith, ints, IsBelow, Measure, kept}
 use Rattle.critical_cycle.proofs.ProductLemmas.{products_fit, products_read, small_product_read}
-use Rattle.relaxation.proofs.GainLemmas.{kept}
 use Rattle.critical_cycle.proofs.MeasureLemmas.{period_small, scale_small}
 use Rattle.critical_cycle.proofs.sums.Sums.measured.Goals as goal
 

@@ -1,6 +1,5 @@
 -- One constraint more is added to both sums.
-use Rattle.std.proofs.Common.{arith}
-use Rattle.std.proofs.lemmas.Int.{ints}
+use Rattle.critical_cycle.proofs.Vocabulary.{arith, ints}
 use Rattle.critical_cycle.proofs.SumLemmas.{weight_more, count_more, part_small}
 use Rattle.critical_cycle.proofs.sums.Sums.of.Goals as goal
 

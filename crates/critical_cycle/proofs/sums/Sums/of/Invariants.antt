@@ -1,6 +1,4 @@
-use Rattle.std.proofs.Common.{◌≡◌, pos, take}
-use Rattle.cts_model.specs.timing.Cycles.{total_count, total_weight}
-use Rattle.critical_cycle.specs.CyclePlaces.{constraints_at}
+use Rattle.critical_cycle.proofs.Vocabulary.{◌≡◌, pos, take, total_count, total_weight, constraints_at}
 use Rattle.critical_cycle.proofs.sums.Sums.of.Given as goal
 
 abbrev pub invariant-loop-place : goal.invariant-loop-place

@@ -1,6 +1,4 @@
-use Rattle.std.proofs.Common.{FitsSigned, rules}
-use mir.Syntax.{w128}
-use Rattle.std.proofs.lemmas.Int.{to_z-of_z}
+use Rattle.cts_base.proofs.Vocabulary.{FitsSigned, rules, w128, to_z-of_z}
 use Rattle.cts_base.proofs.Quotients.{int_div-le, lowest_quotients, quotient_is, same_value}
 use Rattle.cts_base.proofs.fraction.Fraction.of.Goals as goal
 

@@ -1,6 +1,4 @@
-use Rattle.std.proofs.Common.{◌≡◌, arith}
-use mir.Syntax.{w128}
-use Rattle.std.proofs.lemmas.Int.{ints, to_z-of_z}
+use Rattle.cts_base.proofs.Vocabulary.{◌≡◌, arith, w128, ints, to_z-of_z}
 use Rattle.cts_base.proofs.FractionReading.{same_above}
 use Rattle.cts_base.proofs.OneFraction.{one_fraction}
 use Rattle.cts_base.proofs.number.quotient.lowest.Goals as goal

@@ -1,6 +1,4 @@
-use Rattle.std.proofs.Common.{◌-◌, ◌&&◌, drop, sym, ap, ◌∙◌}
-use Rattle.std.specs.List.{list_all}
-use Rattle.cts_base.specs.Decimals.{is_zero}
+use Rattle.cts_base.proofs.Vocabulary.{◌-◌, ◌&&◌, drop, sym, ap, ◌∙◌, list_all, is_zero}
 use Rattle.cts_base.proofs.ScaleLemmas.{rest_passes}
 use Rattle.cts_base.proofs.number.scale.is_zero_after.Goals as goal
 

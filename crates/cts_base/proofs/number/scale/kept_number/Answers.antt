@@ -1,5 +1,4 @@
-use Rattle.std.proofs.Common.{◌-◌, min, take, ap, ◌∙◌}
-use Rattle.std.specs.Str.Parse.{digits_value, digits_value_after}
+use Rattle.cts_base.proofs.Vocabulary.{◌-◌, min, take, ap, ◌∙◌, digits_value, digits_value_after}
 use Rattle.cts_base.proofs.ScaleLemmas.{digits_of_take, kept_value}
 use Rattle.cts_base.proofs.number.scale.kept_number.Goals as goal
 

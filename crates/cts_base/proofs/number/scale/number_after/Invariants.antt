@@ -1,5 +1,4 @@
-use Rattle.std.proofs.Common.{◌≡◌, min, take}
-use Rattle.std.specs.Str.Parse.{digits_value_after}
+use Rattle.cts_base.proofs.Vocabulary.{◌≡◌, min, take, digits_value_after}
 use Rattle.cts_base.proofs.number.scale.number_after.Given as goal
 
 abbrev pub invariant-loop-byte : goal.invariant-loop-byte

@@ -1,7 +1,4 @@
-use Rattle.std.proofs.Common.{◌++◌, min, drop, take, sym, ◌∙◌, arith}
-use Rattle.std.specs.List.{list_all}
-use Rattle.std.specs.Str.Parse.{digits_value}
-use Rattle.cts_base.specs.Decimals.{is_zero}
+use Rattle.cts_base.proofs.Vocabulary.{◌++◌, min, drop, take, sym, ◌∙◌, arith, list_all, digits_value, is_zero}
 use Rattle.cts_base.proofs.SizeLemmas.{placed, too_fine, size_up_to, size_below, size_above}
 use Rattle.cts_base.proofs.number.size.size_of.Goals as goal
 

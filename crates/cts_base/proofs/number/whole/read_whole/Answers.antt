@@ -1,5 +1,4 @@
-use Rattle.std.proofs.Common.{cond, drop, sym, ap, ◌∙◌}
-use Rattle.std.specs.Str.Parse.{without_leading_plus}
+use Rattle.cts_base.proofs.Vocabulary.{cond, drop, sym, ap, ◌∙◌, without_leading_plus}
 use Rattle.cts_base.proofs.WholeReading.{none_above, none_below, none_read, read_above, read_below}
 use Rattle.cts_base.proofs.number.whole.read_whole.Goals as goal
 

@@ -1,5 +1,4 @@
-use Rattle.std.proofs.Common.{◌^◌, rules, sym, subst}
-use Rattle.cts_model.specs.placement.Points.{IsPointBelow}
+use Rattle.cts_model.proofs.Vocabulary.{◌^◌, rules, sym, subst, IsPointBelow}
 use Rattle.cts_model.proofs.GridLemmas.{on_grid_below}
 use Rattle.cts_model.proofs.grid.Grid.point.Goals as goal
 

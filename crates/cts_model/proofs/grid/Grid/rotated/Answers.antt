@@ -1,5 +1,4 @@
-use Rattle.std.proofs.Common.{arith}
-use Rattle.std.proofs.lemmas.Int.{ints}
+use Rattle.cts_model.proofs.Vocabulary.{arith, ints}
 use Rattle.cts_model.proofs.grid.Grid.rotated.Goals as goal
 
 pub to_uv-requires : goal.to_uv-requires

@@ -1,7 +1,4 @@
-use Rattle.std.proofs.Common.{◌≡◌, ◌<◌, ◌^◌, length, pos, get_or, to_z, of_z, subst, sym, arith}
-use mir.Syntax.{w128}
-use Rattle.std.proofs.lemmas.Int.{ints}
-use Rattle.cts_model.specs.placement.Points.{IsBelow}
+use Rattle.cts_model.proofs.Vocabulary.{◌≡◌, ◌<◌, ◌^◌, length, pos, get_or, to_z, of_z, subst, sym, arith, w128, ints, IsBelow}
 use Rattle.cts_model.proofs.GridLemmas.{sinks_of_more}
 use Rattle.cts_model.proofs.grid.Grid.sinks.Goals as goal
 

@@ -1,5 +1,4 @@
-use Rattle.std.proofs.Common.{◌≡◌, take}
-use Rattle.cts_model.specs.tree.Problems.{sinks_of}
+use Rattle.cts_model.proofs.Vocabulary.{◌≡◌, take, sinks_of}
 use Rattle.cts_model.proofs.grid.Grid.sinks.Given as goal
 
 abbrev pub invariant-loop-register : goal.invariant-loop-register

@@ -1,5 +1,4 @@
-use Rattle.std.proofs.Common.{◌≤◌, rules, sym, subst}
-use Rattle.std.specs.Prelude.{unsigned_abs}
+use Rattle.cts_model.proofs.Vocabulary.{◌≤◌, rules, sym, subst, unsigned_abs}
 use Rattle.cts_model.proofs.GridLemmas.{steps_size}
 use Rattle.cts_model.proofs.grid.Grid.steps_of_micro.Goals as goal
 

@@ -1,8 +1,4 @@
-use Rattle.std.proofs.Common.{◌≤◌, ◌^◌, ◌∙◌, neg_ℤ, ap, arith}
-use Rattle.std.specs.Prelude.{unsigned_abs}
-use Rattle.std.proofs.lemmas.Int.{ints, to_z-of_z}
-use mir.Syntax.{w128}
-use Rattle.cts_model.specs.tree.Problems.{scheduled_length}
+use Rattle.cts_model.proofs.Vocabulary.{◌≤◌, ◌^◌, ◌∙◌, neg_ℤ, ap, arith, unsigned_abs, ints, to_z-of_z, w128, scheduled_length}
 use Rattle.cts_model.proofs.GridLemmas.{neg_read, scheduled_size}
 use Rattle.cts_model.proofs.tech.Tech.offset.Goals as goal
 

@@ -1,6 +1,5 @@
-use Rattle.std.proofs.lemmas.Result.{err_from_is_err_and}
-use Rattle.std.proofs.Common.{[], ◌∷◌}
-use Rattle.failure_lines.specs.declared.file_kind.FileKind.TheVariants.{Bench, Tech}
+use Rattle.cts_program.proofs.Vocabulary.{err_from_is_err_and, [], ◌∷◌, Bench}
+use Rattle.failure_lines.specs.declared.file_kind.FileKind.TheVariants.{Tech}
 use Rattle.cts_program.proofs.ReadLemmas.{none_read, read_more, unread_after}
 use Rattle.cts_program.proofs.StepLemmas.{step_from, step_fails, step_counts}
 use Rattle.cts_program.proofs.reading.circuit.read_circuit.Goals as goal

@@ -1,10 +1,4 @@
-use Rattle.std.proofs.Common.{◌∙◌, [], ◌∷◌, map, string_bytes, inr, refl, subst, arith, length-append}
-use Rattle.std.proofs.lemmas.List.{take_all}
-use Rattle.std.proofs.lemmas.Result.{err_from_is_err_and}
-use Rattle.failure_lines.specs.declared.file_kind.FileKind.TheVariants.{Bench}
-use Rattle.cts_program.specs.Files.{corner_files}
-use Rattle.cts_program.specs.Steps.{AreRead}
-use Rattle.cts_program.specs.Told.{bare}
+use Rattle.cts_program.proofs.Vocabulary.{◌∙◌, [], ◌∷◌, map, string_bytes, inr, refl, subst, arith, length-append, take_all, err_from_is_err_and, Bench, corner_files, AreRead, bare}
 use Rattle.cts_program.proofs.CornerFiles.{corner_read, corner_unread, corners_circuit, corners_acyclic}
 use Rattle.cts_program.proofs.ReadLemmas.{none_read, read_more, unread_after}
 use Rattle.cts_program.proofs.StepLemmas.{step_fails, step_counts}

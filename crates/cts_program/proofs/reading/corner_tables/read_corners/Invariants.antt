@@ -1,8 +1,4 @@
-use Rattle.std.proofs.Common.{◌≡◌, ◌∷◌, length, map, take, string_bytes}
-use Rattle.failure_lines.specs.declared.file_kind.FileKind.TheVariants.{Bench}
-use Rattle.cts_program.specs.Files.{corner_files}
-use Rattle.cts_program.specs.Steps.{AreRead}
-use Rattle.cts_program.specs.Told.{bare}
+use Rattle.cts_program.proofs.Vocabulary.{◌≡◌, ◌∷◌, length, map, take, string_bytes, Bench, corner_files, AreRead, bare}
 use Rattle.cts_program.proofs.reading.corner_tables.read_corners.Given as goal
 
 -- the tables so far are read, and the device is as it was

@@ -1,5 +1,4 @@
-use Rattle.std.proofs.Common.{inl, inr, refl, ap}
-use Rattle.failure_lines.specs.declared.failure.Failure.TheVariants.{ReadFault, TooLong}
+use Rattle.cts_program.proofs.Vocabulary.{inl, inr, refl, ap, ReadFault, TooLong}
 use Rattle.cts_program.proofs.ReadLemmas.{long_file}
 use Rattle.cts_program.proofs.reading.document.read_document.Goals as goal
 

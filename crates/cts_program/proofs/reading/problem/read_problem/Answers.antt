@@ -1,7 +1,4 @@
-use Rattle.std.proofs.lemmas.Result.{err_from_is_err_and}
-use Rattle.std.proofs.Common.{[], ◌∷◌}
-use Rattle.failure_lines.specs.declared.file_kind.FileKind.TheVariants.{Placement}
-use Rattle.cts_program.specs.Files.{circuit_files}
+use Rattle.cts_program.proofs.Vocabulary.{err_from_is_err_and, [], ◌∷◌, Placement, circuit_files}
 use Rattle.cts_program.proofs.ReadLemmas.{read_more, unread_after, unread_before}
 use Rattle.cts_program.proofs.StepLemmas.{step_from, step_fails, step_counts}
 use Rattle.cts_program.proofs.reading.problem.read_problem.Goals as goal

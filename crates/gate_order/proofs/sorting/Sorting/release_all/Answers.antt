@@ -1,5 +1,4 @@
-use Rattle.std.proofs.Common.{arith}
-use Rattle.std.proofs.lemmas.List.{take_all}
+use Rattle.gate_order.proofs.Vocabulary.{arith, take_all}
 use Rattle.gate_order.proofs.Releases.{AreReleased-none, AreReleased-more, reader_waits}
 use Rattle.gate_order.proofs.sorting.Sorting.release_all.Goals as goal
 

@@ -1,5 +1,4 @@
-use Rattle.std.proofs.Common.{take}
-use Rattle.gate_order.specs.Sorted.{AreReleased}
+use Rattle.gate_order.proofs.Vocabulary.{take, AreReleased}
 use Rattle.gate_order.proofs.sorting.Sorting.release_all.Given as goal
 
 abbrev pub invariant-loop-reader : goal.invariant-loop-reader

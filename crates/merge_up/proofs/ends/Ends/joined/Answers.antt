@@ -1,5 +1,4 @@
-use Rattle.tilted_rect.specs.Extremes.{u_above, v_above}
-use Rattle.merge_up.specs.Sides.{u_back, v_back}
+use Rattle.merge_up.proofs.Vocabulary.{u_above, v_above, u_back, v_back}
 use Rattle.merge_up.proofs.ends.Ends.joined.Goals as goal
 
 pub returns : goal.returns

@@ -1,5 +1,4 @@
-use Rattle.std.proofs.Common.{arith}
-use Rattle.std.proofs.lemmas.Int.{ints}
+use Rattle.merge_up.proofs.Vocabulary.{arith, ints}
 use Rattle.merge_up.proofs.EndLemmas.{end_alone}
 use Rattle.merge_up.proofs.ends.Ends.of.Goals as goal
 

@@ -1,6 +1,4 @@
-use Rattle.std.proofs.Common.{rules}
-use Rattle.std.proofs.lemmas.Int.{to_z-of_z}
-use Rattle.std.specs.Int.{w128}
+use Rattle.merge_up.proofs.Vocabulary.{rules, to_z-of_z, w128}
 use Rattle.merge_up.proofs.EndLemmas.{side_kept, sides_are_rect}
 use Rattle.merge_up.proofs.ends.Ends.region.Goals as goal
 

@@ -1,5 +1,4 @@
-use Rattle.std.proofs.Common.{arith}
-use Rattle.std.proofs.lemmas.Int.{ints}
+use Rattle.merge_up.proofs.Vocabulary.{arith, ints}
 use Rattle.merge_up.proofs.EndLemmas.{u_ends_show, v_ends_show}
 use Rattle.merge_up.proofs.ends.Ends.show.Goals as goal
 

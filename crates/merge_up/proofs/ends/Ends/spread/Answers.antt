@@ -1,5 +1,4 @@
-use Rattle.std.proofs.Common.{arith}
-use Rattle.std.proofs.lemmas.Int.{ints, clamps}
+use Rattle.merge_up.proofs.Vocabulary.{arith, ints, clamps}
 use Rattle.merge_up.proofs.ends.Ends.spread.Goals as goal
 
 pub returns-clause-value : goal.returns-clause-value

@@ -1,6 +1,4 @@
-use Rattle.std.proofs.Common.{arith}
-use Rattle.std.proofs.lemmas.Int.{ints}
-use Rattle.tilted_rect.proofs.CodeNumbers.{below_fits, difference_read, sum_read}
+use Rattle.merge_up.proofs.Vocabulary.{arith, ints, below_fits, difference_read, sum_read}
 use Rattle.merge_up.proofs.side.Side.furthest.Goals as goal
 
 pub returns-in-HighU : goal.returns-in-HighU

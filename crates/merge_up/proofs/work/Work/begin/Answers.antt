@@ -1,5 +1,4 @@
-use Rattle.std.proofs.Common.{arith}
-use Rattle.std.proofs.lemmas.Option.{slice_get-get_or, slice_get_within}
+use Rattle.merge_up.proofs.Vocabulary.{arith, slice_get-get_or, slice_get_within}
 use Rattle.merge_up.proofs.WorkLemmas.{begun_next}
 use Rattle.merge_up.proofs.work.Work.begin.Goals as goal
 

@@ -1,10 +1,4 @@
-use Rattle.std.proofs.Common.{IfSome, length, subst, refl}
-use Rattle.std.proofs.lemmas.Int.{to_z-of_z}
-use Rattle.std.specs.Int.{w128}
-use Rattle.cts_model.specs.tree.Topologies.{numbers_below, sinks_below}
-use Rattle.tilted_rect.specs.Extremes.{IsGreatest}
-use Rattle.tilted_rect.proofs.CodeNumbers.{kept}
-use Rattle.merge_up.specs.Sides.{IsSoFar, far_to, furthest_to}
+use Rattle.merge_up.proofs.Vocabulary.{IfSome, length, subst, refl, to_z-of_z, w128, numbers_below, sinks_below, IsGreatest, kept, IsSoFar, far_to, furthest_to}
 use Rattle.merge_up.proofs.SearchLemmas.{end_so_far, far_below, greatest_held, greatest_read, some_so_far, some_unless}
 use Rattle.merge_up.proofs.work.Work.found_end.Goals as goal
 use Rattle.merge_up.proofs.work.Work.found_end.Goals.{After-furthest-far}

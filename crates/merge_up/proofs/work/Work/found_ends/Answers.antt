@@ -1,6 +1,4 @@
-use Rattle.std.proofs.Common.{length}
-use Rattle.std.proofs.lemmas.Option.{slice_get-get_or}
-use Rattle.cts_model.proofs.TopologyLemmas.{numbers_below-sink}
+use Rattle.merge_up.proofs.Vocabulary.{length, slice_get-get_or, numbers_below-sink}
 use Rattle.merge_up.proofs.work.Work.found_ends.Goals as goal
 
 pub returns-then-node-sinks : goal.returns-then-node-sinks

@@ -1,11 +1,4 @@
-use Rattle.std.proofs.Common.{◌≡◌, ◌∙◌, ◌+◌, ◌*◌, ◌<◌, take, ap, length, slice_set, subst, rules, arith}
-use Rattle.std.proofs.lemmas.Int.{to_z-of_z}
-use Rattle.std.proofs.lemmas.List.{length-set}
-use Rattle.std.specs.Int.{w128}
-use Rattle.cts_model.specs.tree.Topologies.{numbers_below}
-use Rattle.tilted_rect.specs.Extremes.{HasExtremeSides}
-use Rattle.merge_up.specs.Sides.{extremes_of}
-use Rattle.merge_up.specs.Views.{cut, state_of}
+use Rattle.merge_up.proofs.Vocabulary.{◌≡◌, ◌∙◌, ◌+◌, ◌*◌, ◌<◌, take, ap, length, slice_set, subst, rules, arith, to_z-of_z, length-set, w128, numbers_below, HasExtremeSides, extremes_of, cut, state_of}
 use Rattle.merge_up.proofs.WorkLemmas.{fit_state, renewed_by, take_set, take_unsettled}
 use Rattle.merge_up.proofs.work.Work.hold.Goals as goal
 

@@ -1,8 +1,4 @@
-use Rattle.std.proofs.Common.{◌≡◌, ◌+◌, ◌-◌, Some, ap, length, slice_get, ◌∙◌, arith}
-use Rattle.std.proofs.lemmas.Option.{get_or_from_slice_get, slice_get-get_or}
-use Rattle.cts_model.specs.tree.Topologies.{numbers_below}
-use Rattle.cts_model.proofs.TopologyLemmas.{numbers_below-sink, some_and}
-use Rattle.merge_up.specs.Sides.{AreEnds}
+use Rattle.merge_up.proofs.Vocabulary.{◌≡◌, ◌+◌, ◌-◌, Some, ap, length, slice_get, ◌∙◌, arith, get_or_from_slice_get, slice_get-get_or, numbers_below, numbers_below-sink, some_and, AreEnds}
 use Rattle.merge_up.proofs.work.Work.kept_ends.Goals as goal
 
 pub returns-then-node_place-sinks : goal.returns-then-node_place-sinks

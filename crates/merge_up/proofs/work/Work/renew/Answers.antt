@@ -1,6 +1,4 @@
-use Rattle.std.proofs.Common.{◌-◌, length, inl, inr, arith}
-use Rattle.cts_model.specs.tree.Topologies.{numbers_below}
-use Rattle.cts_model.proofs.TopologyLemmas.{merge_at, merge_here, second_made}
+use Rattle.merge_up.proofs.Vocabulary.{◌-◌, length, inl, inr, arith, numbers_below, merge_at, merge_here, second_made}
 use Rattle.merge_up.proofs.WorkLemmas.{ends_of_merge}
 use Rattle.merge_up.proofs.work.Work.renew.Goals as goal
 

@@ -1,8 +1,4 @@
-use Rattle.std.proofs.Common.{◌<◌, ◌*◌, ◌∙◌, ap, length, slice_set, rules, arith}
-use Rattle.std.proofs.lemmas.Int.{to_z-of_z}
-use Rattle.std.proofs.lemmas.List.{length-set}
-use Rattle.std.specs.Int.{w128}
-use Rattle.merge_up.specs.Views.{cut, state_of}
+use Rattle.merge_up.proofs.Vocabulary.{◌<◌, ◌*◌, ◌∙◌, ap, length, slice_set, rules, arith, to_z-of_z, length-set, w128, cut, state_of}
 use Rattle.merge_up.proofs.WorkLemmas.{fit_state, take_set, take_unsettled}
 use Rattle.merge_up.proofs.work.Work.set_sink.Goals as goal
 

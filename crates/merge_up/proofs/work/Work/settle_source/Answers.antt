@@ -1,9 +1,4 @@
-use Rattle.std.proofs.Common.{◌<◌, ◌≤◌, ◌*◌, ◌-◌, ◌∙◌, ap, length, true, slice_set, rules, arith}
-use Rattle.std.proofs.lemmas.Int.{to_z-of_z}
-use Rattle.std.proofs.lemmas.List.{length-set}
-use Rattle.std.proofs.Math.Seq.{take-set-lt}
-use Rattle.std.specs.Int.{w128}
-use Rattle.merge_up.specs.Views.{cut, state_of}
+use Rattle.merge_up.proofs.Vocabulary.{◌<◌, ◌≤◌, ◌*◌, ◌-◌, ◌∙◌, ap, length, true, slice_set, rules, arith, to_z-of_z, length-set, take-set-lt, w128, cut, state_of}
 use Rattle.merge_up.proofs.WorkLemmas.{fit_state, take_set}
 use Rattle.merge_up.proofs.work.Work.settle_source.Goals as goal
 

@@ -1,5 +1,4 @@
-use Rattle.std.proofs.Common.{IsFalse, refl, rules}
-use Rattle.std.proofs.lemmas.List.Elements.{All-nil}
+use Rattle.merge_up.proofs.Vocabulary.{IsFalse, refl, rules, All-nil}
 use Rattle.merge_up.proofs.WorkLemmas.{fit_state}
 use Rattle.merge_up.proofs.work.Work.with_room.Goals as goal
 

@@ -1,7 +1,4 @@
-use Rattle.std.proofs.Common.{length, sym, ap, ◌∙◌}
-use Rattle.std.proofs.lemmas.List.{length-set}
-use Rattle.cts_model.specs.tree.Sinks.{AreTreeSinks}
-use Rattle.merge_up.specs.Works.{WorkState}
+use Rattle.move_session.proofs.Vocabulary.{length, sym, ap, ◌∙◌, length-set, AreTreeSinks, WorkState}
 use Rattle.move_session.proofs.MovedSinks.{moved_beside, tree_sinks_set}
 use Rattle.move_session.proofs.session.Session.move_sink.Goals as goal
 use Rattle.move_session.proofs.session.Session.move_sink.Goals.{After-set}

@@ -1,9 +1,6 @@
-use Rattle.std.proofs.Common.{◌≡◌, pos, length, slice_index_or, sym, ap, subst, ◌∙◌, arith}
+use Rattle.move_session.proofs.Vocabulary.{◌≡◌, pos, length, slice_index_or, sym, ap, subst, ◌∙◌, arith, IsLeastWire, embedding_of, total_length, total_wire, source_of, Tree}
 use Rattle.std.proofs.lemmas.Int.{ints, to_z-of_z}
 use Rattle.std.specs.Int.{w128}
-use Rattle.cts_model.specs.tree.Embeddings.{IsLeastWire, embedding_of, total_length, total_wire}
-use Rattle.cts_model.specs.tree.Topologies.{source_of}
-use Rattle.cts_model.specs.declared.tree.Tree.{Tree}
 use Rattle.move_session.proofs.PlacedShows.{placed_least, placed_realises}
 use Rattle.move_session.proofs.session.Session.total.Goals as goal
 

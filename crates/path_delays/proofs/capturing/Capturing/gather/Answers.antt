@@ -1,8 +1,6 @@
 -- The registers of one signal more; where no signal waits, they become the list.
-use Rattle.std.proofs.Common.{refl, arith}
-use Rattle.path_delays.specs.declared.capturing.Capturing.{Capturing}
+use Rattle.path_delays.proofs.Vocabulary.{refl, arith, Capturing, common_steps}
 use Rattle.path_delays.proofs.CapturingLemmas.{HasCaptureRoom-same, gathered_all, gathering_next, gathering_room}
-use Rattle.std.proofs.lemmas.Grind.{common_steps}
 use Rattle.path_delays.proofs.capturing.Capturing.gather.Goals as goal
 
 pub insert_all-requires : goal.insert_all-requires

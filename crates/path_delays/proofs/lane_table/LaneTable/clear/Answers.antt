@@ -1,6 +1,5 @@
 -- The row holds no sums.
-use Rattle.std.proofs.Common.{ap}
-use Rattle.path_delays.specs.LaneTables.{rows_of}
+use Rattle.path_delays.proofs.Vocabulary.{ap, rows_of}
 use Rattle.path_delays.proofs.NarrowLemmas.{narrow_gets, row_gets}
 use Rattle.path_delays.proofs.lane_table.LaneTable.clear.Goals as goal
 

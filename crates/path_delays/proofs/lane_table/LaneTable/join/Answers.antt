@@ -1,11 +1,6 @@
 -- In the lane are the least and the greatest of both, in the others what was there.
-use Rattle.std.proofs.Common.{◌≡◌, ◌∙◌, ap, sym, subst}
-use Rattle.path_delays.specs.declared.lanes.Lanes.{Lanes}
-use Rattle.path_delays.specs.declared.sums.Sums.{Sums}
-use Rattle.path_delays.specs.LaneParts.{lane_of}
-use Rattle.path_delays.specs.LaneTables.{table_limit, row_at, rows_of}
+use Rattle.path_delays.proofs.Vocabulary.{◌≡◌, ◌∙◌, ap, sym, subst, Lanes, Sums, lane_of, table_limit, row_at, rows_of, AreWithin, merged_sums}
 use Rattle.path_delays.specs.NarrowParts.{sums_in}
-use Rattle.path_delays.specs.SumParts.{AreWithin, merged_sums}
 use Rattle.path_delays.proofs.NarrowLemmas.{join_here, narrow_gets, narrow_joined, narrow_read, narrow_same, row_gets, row_read}
 use Rattle.path_delays.proofs.lane_table.LaneTable.join.Goals as goal
 

@@ -1,11 +1,6 @@
 -- The row holds the least and the greatest of both.
-use Rattle.std.proofs.Common.{◌∙◌, ap, sym, subst}
-use Rattle.path_delays.specs.declared.lanes.Lanes.{Lanes}
-use Rattle.path_delays.specs.declared.sums.Sums.{Sums}
-use Rattle.path_delays.specs.LaneParts.{lane_of}
+use Rattle.path_delays.proofs.Vocabulary.{◌∙◌, ap, sym, subst, Lanes, Sums, lane_of, table_limit, row_at, rows_of, AreWithin, merged_sums, sums_through}
 use Rattle.path_delays.specs.NarrowParts.{sums_in}
-use Rattle.path_delays.specs.LaneTables.{table_limit, row_at, rows_of}
-use Rattle.path_delays.specs.SumParts.{AreWithin, merged_sums, sums_through}
 use Rattle.path_delays.proofs.NarrowLemmas.{narrow_bounded, narrow_gets, narrow_merged, narrow_passed, narrow_read, passable, row_gets, row_read}
 use Rattle.path_delays.proofs.lane_table.LaneTable.merge.Goals as goal
 

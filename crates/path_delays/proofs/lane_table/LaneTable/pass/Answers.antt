@@ -1,10 +1,5 @@
 -- The row holds the sums of the other one after the gate.
-use Rattle.std.proofs.Common.{◌∙◌, ap, sym, subst}
-use Rattle.path_delays.specs.declared.lanes.Lanes.{Lanes}
-use Rattle.path_delays.specs.declared.sums.Sums.{Sums}
-use Rattle.path_delays.specs.LaneParts.{lane_of}
-use Rattle.path_delays.specs.LaneTables.{table_limit, rows_of}
-use Rattle.path_delays.specs.SumParts.{AreWithin, sums_through}
+use Rattle.path_delays.proofs.Vocabulary.{◌∙◌, ap, sym, subst, Lanes, Sums, lane_of, table_limit, rows_of, AreWithin, sums_through}
 use Rattle.path_delays.proofs.NarrowLemmas.{narrow_bounded, narrow_gets, narrow_passed, narrow_read, passable, row_gets, row_read}
 use Rattle.path_delays.proofs.lane_table.LaneTable.pass.Goals as goal
 

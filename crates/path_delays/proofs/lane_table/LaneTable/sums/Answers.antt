@@ -1,12 +1,5 @@
 -- The lane of a row that is there.
-use Rattle.std.proofs.Common.{◌≡◌, List, Some, ◌∙◌, ap, refl, sym, subst}
-use Rattle.std.specs.List.{slice_get}
-use Rattle.std.specs.Option.{option_and_then}
-use Rattle.std.proofs.lemmas.Option.{slice_get_read}
-use Rattle.path_delays.specs.declared.lanes.Lanes.{Lanes}
-use Rattle.path_delays.specs.declared.narrow_lanes.NarrowLanes.{NarrowLanes}
-use Rattle.path_delays.specs.LaneTables.{rows_of}
-use Rattle.path_delays.specs.SumParts.{some_sums}
+use Rattle.path_delays.proofs.Vocabulary.{◌≡◌, List, Some, ◌∙◌, ap, refl, sym, subst, slice_get, option_and_then, slice_get_read, Lanes, NarrowLanes, rows_of, some_sums}
 use Rattle.path_delays.proofs.NarrowLemmas.{narrow_lane, wide_lane}
 use Rattle.path_delays.proofs.lane_table.LaneTable.sums.Goals as goal
 

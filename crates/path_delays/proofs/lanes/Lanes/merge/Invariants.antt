@@ -1,7 +1,5 @@
 -- The lanes passed so far hold the least and the greatest of both.
-use Rattle.std.proofs.Common.{ℕ, ◌≡◌, ◌<◌, ◌≤◌}
-use Rattle.path_delays.specs.SumParts.{merged_sums}
-use Rattle.path_delays.specs.LaneParts.{lane_of}
+use Rattle.path_delays.proofs.Vocabulary.{ℕ, ◌≡◌, ◌<◌, ◌≤◌, merged_sums, lane_of}
 use Rattle.path_delays.proofs.lanes.Lanes.merge.Given as goal
 
 abbrev pub invariant-loop-lane : goal.invariant-loop-lane

@@ -1,6 +1,5 @@
 -- The next lane is as it was.
-use Rattle.std.proofs.Common.{sym, subst, arith}
-use Rattle.path_delays.specs.SumParts.{AreBounded, delay_limit}
+use Rattle.path_delays.proofs.Vocabulary.{sym, subst, arith, AreBounded, delay_limit}
 use Rattle.path_delays.proofs.LaneLemmas.{bounded_read}
 use Rattle.path_delays.proofs.lanes.Lanes.pass.Goals as goal
 

@@ -1,7 +1,5 @@
 -- The lanes passed so far hold the sums after the gate, the later ones those before it.
-use Rattle.std.proofs.Common.{ℕ, ◌≡◌, ◌<◌, ◌≤◌}
-use Rattle.path_delays.specs.SumParts.{sums_through}
-use Rattle.path_delays.specs.LaneParts.{lane_of}
+use Rattle.path_delays.proofs.Vocabulary.{ℕ, ◌≡◌, ◌<◌, ◌≤◌, sums_through, lane_of}
 use Rattle.path_delays.proofs.lanes.Lanes.pass.Given as goal
 
 abbrev pub invariant-loop-lane : goal.invariant-loop-lane

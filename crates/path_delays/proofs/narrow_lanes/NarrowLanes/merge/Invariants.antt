@@ -1,7 +1,5 @@
 -- The lanes passed so far hold the least and the greatest of both.
-use Rattle.std.proofs.Common.{ℕ, ◌≡◌, ◌<◌, ◌≤◌}
-use Rattle.std.specs.Int.{int_min, int_max}
-use Rattle.path_delays.specs.NarrowParts.{greatest_in, least_in}
+use Rattle.path_delays.proofs.Vocabulary.{ℕ, ◌≡◌, ◌<◌, ◌≤◌, int_min, int_max, greatest_in, least_in}
 use Rattle.path_delays.proofs.narrow_lanes.NarrowLanes.merge.Given as goal
 
 abbrev pub invariant-loop-lane : goal.invariant-loop-lane

@@ -1,7 +1,6 @@
 -- The lanes passed so far hold the sums after the gate, the later ones those before it.
-use Rattle.std.proofs.Common.{ℕ, ◌≡◌, ◌<◌, ◌≤◌}
+use Rattle.path_delays.proofs.Vocabulary.{ℕ, ◌≡◌, ◌<◌, ◌≤◌, greatest_in, least_in}
 use Rattle.std.specs.Prelude.{◌+ℤ◌}
-use Rattle.path_delays.specs.NarrowParts.{greatest_in, least_in}
 use Rattle.path_delays.proofs.narrow_lanes.NarrowLanes.pass.Given as goal
 
 abbrev pub invariant-loop-lane : goal.invariant-loop-lane

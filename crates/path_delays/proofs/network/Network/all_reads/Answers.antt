@@ -1,6 +1,5 @@
 -- One signal more.
-use Rattle.std.proofs.Common.{◌≡◌, length, refl, arith}
-use Rattle.std.proofs.lemmas.Option.{slice_get_read}
+use Rattle.path_delays.proofs.Vocabulary.{◌≡◌, length, refl, arith, slice_get_read}
 use Rattle.path_delays.proofs.NetworkLemmas.{AreAllReads-none, AreAllReads-more}
 use Rattle.path_delays.proofs.network.Network.all_reads.Goals as goal
 

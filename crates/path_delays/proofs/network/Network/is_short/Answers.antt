@@ -1,14 +1,7 @@
 -- One delay more, and all of them.
-use Rattle.std.proofs.Common.{◌≡◌, ◌-ℤ◌, ◌≤ℤ◌, pos, false, List, length, refl, sym, ◌∙◌, ap, subst, to_z, of_z, arith}
-use Rattle.std.specs.Int.{int_max, w64}
-use Rattle.std.specs.Int.Signed.{lt_z}
-use Rattle.std.specs.List.{slice_index_or, sum_by}
-use Rattle.std.proofs.lemmas.Int.{ints}
+use Rattle.path_delays.proofs.Vocabulary.{◌≡◌, ◌-ℤ◌, ◌≤ℤ◌, pos, false, List, length, refl, sym, ◌∙◌, ap, subst, arith, int_max, w64, lt_z, slice_index_or, sum_by, ints, take_all, Sums, AreWithin, delay_limit, most_of, no_delay}
+use Rattle.std.proofs.Common.{to_z, of_z}
 use Rattle.std.proofs.Math.Facts.{sfits_to_z}
-use Rattle.std.proofs.lemmas.List.{take_all}
-use Rattle.path_delays.specs.declared.sums.Sums.{Sums}
-use Rattle.path_delays.specs.SumParts.{AreWithin, delay_limit}
-use Rattle.path_delays.specs.Handing.{most_of, no_delay}
 use Rattle.path_delays.proofs.Rooms.{IsLeftAfter-more}
 use Rattle.path_delays.proofs.SumLemmas.{max_cases}
 use Rattle.path_delays.proofs.network.Network.is_short.Goals as goal

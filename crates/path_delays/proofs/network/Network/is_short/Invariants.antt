@@ -1,6 +1,5 @@
 -- So much is left after the delays passed so far.
-use Rattle.std.proofs.Common.{take}
-use Rattle.path_delays.specs.Networks.{IsLeftAfter}
+use Rattle.path_delays.proofs.Vocabulary.{take, IsLeftAfter}
 use Rattle.path_delays.proofs.network.Network.is_short.Given as goal
 
 abbrev pub invariant-loop-delay : goal.invariant-loop-delay

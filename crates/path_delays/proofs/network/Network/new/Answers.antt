@@ -1,7 +1,6 @@
 -- The readers, the ranks and the delays are those of the circuit.
-use Rattle.std.proofs.Common.{◌≡◌, arith, ◌∙◌}
+use Rattle.path_delays.proofs.Vocabulary.{◌≡◌, arith, ◌∙◌, common_steps}
 use Rattle.path_delays.proofs.NetworkLemmas.{AreReaders-grouped, AreRanks-placed, few_gates}
-use Rattle.std.proofs.lemmas.Grind.{common_steps}
 use Rattle.path_delays.proofs.network.Network.new.Goals as goal
 
 pub places-requires-clause-few : goal.places-requires-clause-few

@@ -1,8 +1,5 @@
 -- One pair more, and all of them.
-use Rattle.std.proofs.Common.{◌≡◌, ◌≤◌, get_or, inl, inr, arith, subst}
-use Rattle.std.proofs.lemmas.Bool.{cases_lt}
-use Rattle.std.proofs.lemmas.List.{get_or_default}
-use Rattle.path_delays.specs.Handing.{rank_at}
+use Rattle.path_delays.proofs.Vocabulary.{◌≡◌, ◌≤◌, get_or, inl, inr, arith, subst, cases_lt, get_or_default, rank_at}
 use Rattle.path_delays.proofs.ReachedPairs.{captured_is_fan_in}
 use Rattle.path_delays.proofs.network.Network.top_captured.Goals as goal
 

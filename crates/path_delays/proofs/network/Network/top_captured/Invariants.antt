@@ -1,6 +1,5 @@
 -- What the second registers of the pairs passed so far capture has no higher rank.
-use Rattle.std.proofs.Common.{◌<◌, ℕ, get_or}
-use Rattle.path_delays.specs.Networks.{AreCapturedUpTo}
+use Rattle.path_delays.proofs.Vocabulary.{◌<◌, ℕ, get_or, AreCapturedUpTo}
 use Rattle.path_delays.proofs.network.Network.top_captured.Given as goal
 
 abbrev pub invariant-loop-pair : goal.invariant-loop-pair

@@ -1,7 +1,5 @@
 -- One signal more, and all of them.
-use Rattle.std.proofs.Common.{◌≡◌, inl, inr, arith}
-use Rattle.std.proofs.lemmas.Bool.{cases_lt}
-use Rattle.std.proofs.lemmas.List.{get_or_default}
+use Rattle.path_delays.proofs.Vocabulary.{◌≡◌, inl, inr, arith, cases_lt, get_or_default}
 use Rattle.path_delays.proofs.network.Network.top_of.Goals as goal
 
 pub loop-signal-preserved : goal.loop-signal-preserved

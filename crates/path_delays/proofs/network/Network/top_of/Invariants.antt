@@ -1,6 +1,5 @@
 -- None of the signals passed so far has a higher rank.
-use Rattle.std.proofs.Common.{◌<◌, ◌≤◌, ℕ, get_or}
-use Rattle.path_delays.specs.Handing.{rank_at}
+use Rattle.path_delays.proofs.Vocabulary.{◌<◌, ◌≤◌, ℕ, get_or, rank_at}
 use Rattle.path_delays.proofs.network.Network.top_of.Given as goal
 
 abbrev pub invariant-loop-signal : goal.invariant-loop-signal

@@ -1,10 +1,5 @@
 -- One reader more.
-use Rattle.std.proofs.Common.{◌≡◌, ℕ, List, Option, Some, length, take, get_or, refl, sym, ◌∙◌, ap, subst, arith}
-use Rattle.std.specs.Prelude.{IsSome}
-use Rattle.std.proofs.lemmas.List.{take_all, take_more}
-use Rattle.path_delays.specs.declared.lanes.Lanes.{Lanes}
-use Rattle.path_delays.specs.LaneParts.{AllBounded}
-use Rattle.path_delays.specs.Handing.{IsHanded, lanes_at}
+use Rattle.path_delays.proofs.Vocabulary.{◌≡◌, ℕ, List, Option, Some, length, take, get_or, refl, sym, ◌∙◌, ap, subst, arith, IsSome, take_all, take_more, Lanes, AllBounded, IsHanded, lanes_at}
 use Rattle.path_delays.proofs.Hands.{HasReachRoom-same, AreHanded-push}
 use Rattle.path_delays.proofs.LaneLemmas.{some_is}
 use Rattle.path_delays.proofs.reach.Reach.hand_on.Goals as goal

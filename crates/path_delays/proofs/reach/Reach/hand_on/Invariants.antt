@@ -1,8 +1,5 @@
 -- The sums are handed to the readers passed so far.
-use Rattle.std.proofs.Common.{◌≡◌, take}
-use Rattle.path_delays.specs.declared.lanes.Lanes.{Lanes}
-use Rattle.path_delays.specs.Handing.{HasReachRoom, AreHanded, lanes_at, limit_of}
-use Rattle.std.proofs.Common.{Some}
+use Rattle.path_delays.proofs.Vocabulary.{◌≡◌, take, Lanes, HasReachRoom, AreHanded, lanes_at, limit_of, Some}
 use Rattle.path_delays.proofs.reach.Reach.hand_on.Given as goal
 
 abbrev pub invariant-loop-gate : goal.invariant-loop-gate

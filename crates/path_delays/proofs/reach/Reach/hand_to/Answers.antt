@@ -1,9 +1,5 @@
 -- The gate joins the sums with its own, or holds them alone and waits.
-use Rattle.std.proofs.Common.{◌∙◌, pos, sym, subst, arith}
-use Rattle.std.proofs.lemmas.List.{get_or_default}
-use Rattle.path_delays.specs.SumParts.{AreWithin}
-use Rattle.path_delays.specs.NumberSets.{IsInserted}
-use Rattle.path_delays.specs.Handing.{limit_of}
+use Rattle.path_delays.proofs.Vocabulary.{◌∙◌, pos, sym, subst, arith, get_or_default, AreWithin, IsInserted, limit_of}
 use Rattle.path_delays.proofs.Hands.{IsHanded-merged, IsHanded-passed, row_bounded}
 use Rattle.path_delays.proofs.reach.Reach.hand_to.Goals as goal
 

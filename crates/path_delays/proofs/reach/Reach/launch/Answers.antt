@@ -1,10 +1,5 @@
 -- One signal more, and all of them.
-use Rattle.std.proofs.Common.{◌≡◌, length, take, get_or, sym, subst, arith}
-use Rattle.std.proofs.lemmas.List.Elements.{Contains-get_or}
-use Rattle.std.proofs.lemmas.Option.{slice_get-get_or}
-use Rattle.path_delays.specs.SumParts.{AreWithin}
-use Rattle.path_delays.specs.Handing.{limit_of}
-use Rattle.path_delays.specs.Walking.{AllBelow, BegunIn, IsSpread}
+use Rattle.path_delays.proofs.Vocabulary.{◌≡◌, length, take, get_or, sym, subst, arith, Contains-get_or, slice_get-get_or, AreWithin, limit_of, AllBelow, BegunIn, IsSpread}
 use Rattle.path_delays.proofs.LaunchLemmas.{launched_within}
 use Rattle.path_delays.proofs.WalkStarts.{begun_all, begun_next, begun_none, start_bounded}
 use Rattle.path_delays.proofs.WalkSteps.{all_bounded}

@@ -1,7 +1,5 @@
 -- The signals passed so far start in the lane.
-use Rattle.std.proofs.Common.{take}
-use Rattle.path_delays.specs.Handing.{HasReachRoom}
-use Rattle.path_delays.specs.Walking.{AllBelow, BegunIn, IsSpread}
+use Rattle.path_delays.proofs.Vocabulary.{take, HasReachRoom, AllBelow, BegunIn, IsSpread}
 use Rattle.path_delays.proofs.reach.Reach.launch.Given as goal
 
 abbrev pub invariant-loop-signal : goal.invariant-loop-signal

@@ -1,6 +1,5 @@
 -- The registers passed so far start, each in its lane.
-use Rattle.path_delays.specs.Handing.{HasReachRoom}
-use Rattle.path_delays.specs.Walking.{IsSpreadBelow}
+use Rattle.path_delays.proofs.Vocabulary.{HasReachRoom, IsSpreadBelow}
 use Rattle.path_delays.proofs.reach.Reach.launch_all.Given as goal
 
 abbrev pub invariant-loop-lane : goal.invariant-loop-lane

@@ -1,6 +1,5 @@
 -- What stood there is joined with the sums.
-use Rattle.std.proofs.Common.{sym, subst, arith}
-use Rattle.path_delays.specs.SumParts.{AreWithin}
+use Rattle.path_delays.proofs.Vocabulary.{sym, subst, arith, AreWithin}
 use Rattle.path_delays.proofs.Hands.{IsMarked-joined}
 use Rattle.path_delays.proofs.reach.Reach.mark.Goals as goal
 

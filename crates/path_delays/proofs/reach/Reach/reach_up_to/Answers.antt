@@ -1,10 +1,5 @@
 -- The gate of the lowest rank that waits is taken, and hands on its sums.
-use Rattle.std.proofs.Common.{◌≡◌, ◌+◌, ◌∙◌, ℕ, length, refl, sym, arith}
-use Rattle.std.proofs.lemmas.Bool.{true≢false}
-use Rattle.std.proofs.lemmas.Option.{slice_get_within}
-use Rattle.path_delays.specs.declared.reach.Reach.{Reach}
-use Rattle.path_delays.specs.Handing.{lanes_at, rank_at}
-use Rattle.path_delays.specs.Walking.{LanesBelow}
+use Rattle.path_delays.proofs.Vocabulary.{◌≡◌, ◌+◌, ◌∙◌, ℕ, length, refl, sym, arith, true≢false, slice_get_within, Reach, lanes_at, rank_at, LanesBelow}
 use Rattle.path_delays.proofs.Hands.{HasReachRoom-same}
 use Rattle.path_delays.proofs.LaneLemmas.{some_is}
 use Rattle.path_delays.proofs.WalkEnds.{reach_shown}

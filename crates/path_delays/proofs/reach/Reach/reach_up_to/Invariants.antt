@@ -1,7 +1,5 @@
 -- All registers start, and all signals below the rank have handed on their sums.
-use Rattle.std.proofs.Common.{◌+◌, ◌-◌, ◌≤◌, length}
-use Rattle.path_delays.specs.Handing.{HasReachRoom}
-use Rattle.path_delays.specs.Walking.{IsSpreadBelow}
+use Rattle.path_delays.proofs.Vocabulary.{◌+◌, ◌-◌, ◌≤◌, length, HasReachRoom, IsSpreadBelow}
 use Rattle.path_delays.proofs.reach.Reach.reach_up_to.Given as goal
 
 abbrev pub invariant-loop-next : goal.invariant-loop-next

@@ -1,6 +1,5 @@
 -- There are few gates, and room for them.
-use Rattle.std.proofs.Common.{◌≤◌, length, arith, ap, ◌∙◌}
-use Rattle.path_delays.specs.Handing.{limit_of}
+use Rattle.path_delays.proofs.Vocabulary.{◌≤◌, length, arith, ap, ◌∙◌, limit_of}
 use Rattle.path_delays.proofs.NetworkLemmas.{few_gates}
 use Rattle.path_delays.proofs.Rooms.{HasReachRoom-made, delays_within, held_by_width}
 use Rattle.path_delays.proofs.walk.Walk.new.Goals as goal

@@ -1,8 +1,5 @@
 -- The lanes hold the first registers, and none of the second captures beyond the highest rank.
-use Rattle.std.proofs.Common.{◌≡◌, ◌<◌, ◌∙◌, ℕ, Some, length, take, get_or, ap, arith, subst, sym}
-use Rattle.std.proofs.lemmas.List.{length-take, get_or-take, get_or_default}
-use Rattle.std.proofs.lemmas.Option.{same_Some, slice_get-get_or, slice_get_within}
-use Rattle.path_delays.specs.Networks.{AreCapturedUpTo}
+use Rattle.path_delays.proofs.Vocabulary.{◌≡◌, ◌<◌, ◌∙◌, ℕ, Some, length, take, get_or, ap, arith, subst, sym, length-take, get_or-take, get_or_default, same_Some, slice_get-get_or, slice_get_within, AreCapturedUpTo}
 use Rattle.path_delays.proofs.walk.Walk.walk_between.Goals as goal
 
 pub reach_up_to-requires-clause-registers : goal.reach_up_to-requires-clause-registers

@@ -1,6 +1,5 @@
 -- Each of both times moves by no more than 10^10.
-use Rattle.std.proofs.Common.{◌+ℤ◌, ◌∙◌, ap, arith}
-use Rattle.std.proofs.lemmas.Int.{ints}
+use Rattle.path_delays.proofs.Vocabulary.{◌+ℤ◌, ◌∙◌, ap, arith, ints}
 use Rattle.path_delays.proofs.WindowLemmas.{kept_time, kept_ticks, kept_delay}
 use Rattle.path_delays.proofs.window.Window.suffix.Goals as goal
 

@@ -1,9 +1,5 @@
-use Rattle.std.proofs.Common.{[], ◌∷◌, ◌++◌, sym, subst, arith}
-use Rattle.std.proofs.lemmas.Int.{ints, to_z-of_z}
-use Rattle.std.specs.Int.{w128}
+use Rattle.place_down.proofs.Vocabulary.{[], ◌∷◌, ◌++◌, sym, subst, arith, ints, to_z-of_z, w128, rotated, IsTop}
 use Rattle.cts_model.specs.declared.tree.Show.TheVariants as shows
-use Rattle.cts_model.specs.placement.Points.{rotated}
-use Rattle.place_down.specs.Sources.{IsTop}
 use Rattle.place_down.proofs.SourceLemmas.{top_kept, top_further}
 use Rattle.place_down.proofs.source.Top.further.Goals as goal
 

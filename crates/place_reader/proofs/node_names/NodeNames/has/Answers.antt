@@ -1,6 +1,4 @@
-use Rattle.std.proofs.Common.{sym, ◌∙◌}
-use Rattle.std.specs.Str.{bytes_eq}
-use Rattle.cts_base.proofs.ListTests.{list_any-map}
+use Rattle.place_reader.proofs.Vocabulary.{sym, ◌∙◌, bytes_eq, list_any-map}
 use Rattle.place_reader.proofs.node_names.NodeNames.has.Goals as goal
 
 pub returns : goal.returns

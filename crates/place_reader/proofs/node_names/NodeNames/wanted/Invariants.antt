@@ -1,6 +1,4 @@
-use Rattle.std.proofs.Common.{take}
-use Rattle.place_reader.specs.Placements.{register_nodes}
-use Rattle.place_reader.specs.Names.{AreSameNames}
+use Rattle.place_reader.proofs.Vocabulary.{take, register_nodes, AreSameNames}
 use Rattle.place_reader.proofs.node_names.NodeNames.wanted.Given as goal
 
 abbrev pub invariant-loop-register : goal.invariant-loop-register

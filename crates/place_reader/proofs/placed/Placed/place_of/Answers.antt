@@ -1,5 +1,4 @@
-use Rattle.std.proofs.Common.{sym, ◌∙◌}
-use Rattle.std.specs.Str.{bytes_eq}
+use Rattle.place_reader.proofs.Vocabulary.{sym, ◌∙◌, bytes_eq}
 use Rattle.place_reader.proofs.PlacedLemmas.{lookup-named}
 use Rattle.place_reader.proofs.placed.Placed.place_of.Goals as goal
 

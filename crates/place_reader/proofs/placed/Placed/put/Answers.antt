@@ -1,6 +1,4 @@
-use Rattle.std.proofs.Common.{◌≡◌, None, sym, ap, ◌∙◌, map, ◌++◌, ◌∷◌, []}
-use Rattle.std.specs.Str.{bytes_eq}
-use Rattle.std.specs.Map.{lookup}
+use Rattle.place_reader.proofs.Vocabulary.{◌≡◌, None, sym, ap, ◌∙◌, map, ◌++◌, ◌∷◌, [], bytes_eq, lookup}
 use Rattle.place_reader.proofs.PlacedLemmas.{named, lookup-named, insert_entry-named}
 use Rattle.place_reader.proofs.placed.Placed.put.Goals as goal
 

@@ -1,9 +1,5 @@
-use Rattle.std.proofs.Common.{◌∙◌, sym, subst}
-use Rattle.std.proofs.lemmas.Result.{IfErr-weaker}
+use Rattle.place_reader.proofs.Vocabulary.{◌∙◌, sym, subst, IfErr-weaker, IsFaultOf, NoMemory, said_by}
 use Rattle.indexmap.proofs.MapLemmas.{OnOk-map}
-use Rattle.cts_base.specs.LineFormats.{IsFaultOf}
-use Rattle.place_reader.specs.declared.fault.PlaceFault.TheVariants.{NoMemory}
-use Rattle.place_reader.specs.View.{said_by}
 use Rattle.place_reader.proofs.PlaceLemmas.{fault_is, line_taken}
 use Rattle.place_reader.proofs.placing.PlacingLineFormat.read_line.Goals as goal
 

@@ -1,6 +1,5 @@
 -- Products are small, so the code's numbers are the same.
-use Rattle.std.proofs.Common.{subst, sym, ◌^◌}
-use Rattle.cts_model.specs.placement.Points.{IsBelow}
+use Rattle.relaxation.proofs.Vocabulary.{subst, sym, ◌^◌, IsBelow}
 use Rattle.relaxation.proofs.GainLemmas.{asked_fits, less_fits, setup_gain, hold_gain, gain_small}
 use Rattle.relaxation.proofs.gains.Gains.gain.Goals as goal
 

@@ -1,9 +1,5 @@
 -- A step more where there is a parent, and none where there isn't.
-use Rattle.std.proofs.Common.{◌≡◌, ◌<◌, Some, None, MatchOption, length, refl, sym, subst, ◌∙◌, arith, ℕ, Option}
-use Rattle.std.proofs.lemmas.Option.{slice_get_read, slice_get_past}
-use Rattle.cts_model.specs.declared.constraint.Constraint.{Constraint}
-use Rattle.cts_model.specs.timing.Constraints.{IsSmallConstraint}
-use Rattle.relaxation.specs.Parents.{ReachesUp, parent_of}
+use Rattle.relaxation.proofs.Vocabulary.{◌≡◌, ◌<◌, Some, None, MatchOption, length, refl, sym, subst, ◌∙◌, arith, ℕ, Option, slice_get_read, slice_get_past, Constraint, IsSmallConstraint, ReachesUp, parent_of}
 use Rattle.relaxation.proofs.ClimbLemmas.{parent_read, IsClimbing-more, no_climb}
 use Rattle.relaxation.proofs.relaxation.Relaxation.climb.Goals as goal
 

@@ -1,7 +1,5 @@
 -- Each way down raises, or nothing changes.
-use Rattle.std.proofs.Common.{sym, subst, arith}
-use Rattle.relaxation.specs.declared.relaxation.Relaxation.{Relaxation}
-use Rattle.relaxation.specs.Relaxing.{HasRisen}
+use Rattle.relaxation.proofs.Vocabulary.{sym, subst, arith, Relaxation, HasRisen}
 use Rattle.relaxation.proofs.StepLemmas.{HasRisen-more, HasRisen-none}
 use Rattle.relaxation.proofs.relaxation.Relaxation.follow_parents.Goals as goal
 use Rattle.relaxation.proofs.relaxation.Relaxation.follow_parents.Goals.{in-Some, in_default}

@@ -1,5 +1,4 @@
-use Rattle.std.proofs.Common.{◌≡◌, length}
-use Rattle.relaxation.specs.Relaxing.{HasRisen}
+use Rattle.relaxation.proofs.Vocabulary.{◌≡◌, length, HasRisen}
 use Rattle.relaxation.proofs.relaxation.Relaxation.follow_parents.Given as goal
 
 abbrev pub invariant-loop-register : goal.invariant-loop-register

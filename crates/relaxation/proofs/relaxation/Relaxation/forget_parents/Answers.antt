@@ -1,6 +1,5 @@
 -- No parent is a place.
-use Rattle.std.proofs.Common.{◌≡◌, ℕ, List, None, subst, sym}
-use Rattle.relaxation.specs.Parents.{parent_of}
+use Rattle.relaxation.proofs.Vocabulary.{◌≡◌, ℕ, List, None, subst, sym, parent_of}
 use Rattle.relaxation.proofs.PrepareLemmas.{no_parents}
 use Rattle.relaxation.proofs.relaxation.Relaxation.forget_parents.Goals as goal
 

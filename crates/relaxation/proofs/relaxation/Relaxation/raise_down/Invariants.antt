@@ -1,5 +1,4 @@
-use Rattle.std.proofs.Common.{◌<◌, length}
-use Rattle.relaxation.specs.Relaxing.{HasRisen}
+use Rattle.relaxation.proofs.Vocabulary.{◌<◌, length, HasRisen}
 use Rattle.relaxation.proofs.relaxation.Relaxation.raise_down.Given as goal
 
 abbrev pub invariant-loop-step : goal.invariant-loop-step

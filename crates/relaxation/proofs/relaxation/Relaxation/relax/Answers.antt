@@ -1,9 +1,6 @@
 -- The code's numbers are small, so they are what the definitions say.
-use Rattle.std.proofs.Common.{◌^◌, get_or, ◌∙◌, refl, sym, subst, ap, arith}
+use Rattle.relaxation.proofs.Vocabulary.{◌^◌, get_or, ◌∙◌, refl, sym, subst, ap, arith, slice_get-get_or, Constraint, IsBelow}
 use Rattle.std.proofs.Math.ListN.{set}
-use Rattle.std.proofs.lemmas.Option.{slice_get-get_or}
-use Rattle.cts_model.specs.declared.constraint.Constraint.{Constraint}
-use Rattle.cts_model.specs.placement.Points.{IsBelow}
 use Rattle.relaxation.proofs.RelaxLemmas.{nowhere, IsRead-at, sum_fits, offer_read, left_read, more_read, relaxed_left, relaxed_raised}
 use Rattle.relaxation.proofs.relaxation.Relaxation.relax.Goals as goal
 

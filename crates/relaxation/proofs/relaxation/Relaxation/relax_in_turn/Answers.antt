@@ -1,11 +1,5 @@
 -- A constraint whose tail isn't above the cap raises its head, or nothing changes.
-use Rattle.std.proofs.Common.{◌≡◌, ◌<◌, ◌^◌, ℕ, ℤ, pos, ◌≤ℤ◌, List, Option, length, get_or, subst, arith}
-use Rattle.std.proofs.lemmas.Int.{ints}
-use Rattle.std.proofs.lemmas.List.{get_or_read}
-use Rattle.cts_model.specs.declared.constraint.Constraint.{Constraint}
-use Rattle.relaxation.specs.declared.gains.Gains.{Gains}
-use Rattle.relaxation.specs.declared.relaxation.Relaxation.{Relaxation}
-use Rattle.relaxation.specs.Relaxing.{HasRisen, HasRoom, IsRelaxed}
+use Rattle.relaxation.proofs.Vocabulary.{◌≡◌, ◌<◌, ◌^◌, ℕ, ℤ, pos, ◌≤ℤ◌, List, Option, length, get_or, subst, arith, ints, get_or_read, Constraint, Gains, Relaxation, HasRisen, HasRoom, IsRelaxed}
 use Rattle.relaxation.proofs.RelaxLemmas.{nowhere}
 use Rattle.relaxation.proofs.StepLemmas.{HasRisen-one}
 use Rattle.relaxation.proofs.relaxation.Relaxation.relax_in_turn.Goals as goal

@@ -1,8 +1,6 @@
 -- Each value is small once it is brought over.
-use Rattle.std.proofs.Common.{ap, refl, arith}
+use Rattle.relaxation.proofs.Vocabulary.{ap, refl, arith, ints, to_z-of_z, w128}
 use Rattle.std.proofs.Math.ListN.{set}
-use Rattle.std.proofs.lemmas.Int.{ints, to_z-of_z}
-use Rattle.std.specs.Int.{w128}
 use Rattle.relaxation.proofs.PrepareLemmas.{IsPrepared-more}
 use Rattle.relaxation.proofs.relaxation.Relaxation.rescale.Goals as goal
 

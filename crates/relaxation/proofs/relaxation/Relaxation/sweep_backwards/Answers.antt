@@ -1,6 +1,5 @@
 -- A look at each place, from the last down.
-use Rattle.std.proofs.Common.{◌≤◌, ◌+◌, ◌-◌, ◌⊎◌, ◌≡◌, ℕ, length, inl, inr, arith, sym, subst}
-use Rattle.std.proofs.lemmas.Bool.{cases_lt}
+use Rattle.relaxation.proofs.Vocabulary.{◌≤◌, ◌+◌, ◌-◌, ◌⊎◌, ◌≡◌, ℕ, length, inl, inr, arith, sym, subst, cases_lt}
 use Rattle.relaxation.proofs.StepLemmas.{IsUnderWay, IsUnderWay-more, small_now, IsSweep-all}
 use Rattle.relaxation.proofs.relaxation.Relaxation.sweep_backwards.Goals as goal
 

@@ -1,6 +1,5 @@
 -- A look at each place, from the first on.
-use Rattle.std.proofs.Common.{◌<◌, ◌+◌, ◌⊎◌, ◌≡◌, ℕ, inl, inr, arith, sym, subst}
-use Rattle.std.proofs.lemmas.Bool.{cases_lt}
+use Rattle.relaxation.proofs.Vocabulary.{◌<◌, ◌+◌, ◌⊎◌, ◌≡◌, ℕ, inl, inr, arith, sym, subst, cases_lt}
 use Rattle.relaxation.proofs.StepLemmas.{IsUnderWay, IsUnderWay-more, small_now, IsSweep-all}
 use Rattle.relaxation.proofs.relaxation.Relaxation.sweep_forwards.Goals as goal
 

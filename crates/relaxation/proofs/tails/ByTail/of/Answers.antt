@@ -1,5 +1,4 @@
-use Rattle.std.proofs.Common.{subst, arith}
-use Rattle.relaxation.specs.Tails.{AreByTail}
+use Rattle.relaxation.proofs.Vocabulary.{subst, arith, AreByTail}
 use Rattle.relaxation.proofs.RelaxLemmas.{nowhere}
 use Rattle.relaxation.proofs.TailLemmas.{AreByTail-more}
 use Rattle.relaxation.proofs.tails.ByTail.of.Goals as goal

@@ -31,8 +31,7 @@ returns-clause-value c some =
       to_z-of_z w128 c.args.bound c.ranges.bound,
     ) at c.steps_of.ensures.value in
     IfOk-weaker c.steps_of.result
-    (λ steps. AreSteps over fraction.num fraction.den steps
-    × IsBelow (nat_abs c.args.bound) steps)
+    (λ steps. AreSteps over fraction.num fraction.den steps × IsBelow (nat_abs c.args.bound) steps)
     (λ steps. word ≡ quotient_text steps over × IsBelow (nat_abs c.args.bound) steps)
     (λ steps has. (
       steps_word word over _ _ _ some (spells, λ _. fraction.lowest) small has.0,

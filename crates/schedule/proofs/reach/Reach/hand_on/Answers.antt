@@ -1,7 +1,4 @@
-use Rattle.std.proofs.Common.{◌<◌, ◌-◌, ℕ, length, arith, get_or, subst, sym}
-use Rattle.std.proofs.lemmas.List.{get_or_read}
-use Rattle.relaxation.specs.Tails.{IsLastBefore}
-use Rattle.relaxation.proofs.RelaxLemmas.{nowhere}
+use Rattle.schedule.proofs.Vocabulary.{◌<◌, ◌-◌, ℕ, length, arith, get_or, subst, sym, get_or_read, IsLastBefore, nowhere}
 use Rattle.schedule.proofs.HandLemmas.{IsHanding-none, IsHanding-more}
 use Rattle.schedule.proofs.reach.Reach.hand_on.Goals as goal
 

@@ -1,10 +1,4 @@
-use Rattle.std.proofs.Common.{rules, ◌≡◌, ◌<◌, ◌+◌, ◌∙◌, length, false, get_or, ap, arith}
-use Rattle.std.proofs.lemmas.Result.{on_ok_weaker}
-use Rattle.std.proofs.lemmas.List.{get_or_read}
-use Rattle.cts_model.specs.declared.constraint.Constraint.{Constraint}
-use Rattle.cts_model.specs.declared.schedule.Lead.TheVariants.{Zero}
-use Rattle.cts_model.specs.timing.Leads.{IsTight, depth_of, lead_at}
-use Rattle.relaxation.proofs.RelaxLemmas.{nowhere}
+use Rattle.schedule.proofs.Vocabulary.{rules, ◌≡◌, ◌<◌, ◌+◌, ◌∙◌, length, false, get_or, ap, arith, on_ok_weaker, get_or_read, Constraint, Zero, IsTight, depth_of, lead_at, nowhere}
 use Rattle.schedule.proofs.HandLemmas.{IsGrown-offered}
 use Rattle.schedule.proofs.reach.Reach.offer.Goals as goal
 

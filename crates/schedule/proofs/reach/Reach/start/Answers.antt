@@ -1,5 +1,4 @@
-use Rattle.std.proofs.Common.{subst, arith}
-use Rattle.schedule.specs.Reaching.{IsReaching}
+use Rattle.schedule.proofs.Vocabulary.{subst, arith, IsReaching}
 use Rattle.schedule.proofs.reach.Reach.start.Goals as goal
 
 pub loop-register-preserved : goal.loop-register-preserved

@@ -1,6 +1,4 @@
-use Rattle.std.proofs.Common.{rules, ◌≡◌, ◌+◌, pos, arith}
-use Rattle.std.proofs.lemmas.Result.{on_ok_weaker}
-use Rattle.cts_model.specs.timing.Schedules.{arrival_of}
+use Rattle.schedule.proofs.Vocabulary.{rules, ◌≡◌, ◌+◌, pos, arith, on_ok_weaker, arrival_of}
 use Rattle.schedule.proofs.ReachLemmas.{IsReaching-added, next_or_before}
 use Rattle.schedule.proofs.reach.Reach.start_at.Goals as goal
 

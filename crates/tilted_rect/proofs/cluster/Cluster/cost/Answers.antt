@@ -1,7 +1,4 @@
-use Rattle.std.proofs.Common.{◌≡◌, ◌-ℤ◌, ap, ◌∙◌, rules}
-use Rattle.std.proofs.lemmas.Int.{to_z-of_z}
-use Rattle.std.specs.Int.{w128, int_max}
-use Rattle.tilted_rect.specs.Rects.{gap_of}
+use Rattle.tilted_rect.proofs.Vocabulary.{◌≡◌, ◌-ℤ◌, ap, ◌∙◌, rules, to_z-of_z, w128, int_max, gap_of}
 use Rattle.tilted_rect.proofs.ClusterLemmas.{reaches_apart, cost_reach, cost_below}
 use Rattle.tilted_rect.proofs.CodeNumbers.{kept}
 use Rattle.tilted_rect.proofs.cluster.Cluster.cost.Goals as goal

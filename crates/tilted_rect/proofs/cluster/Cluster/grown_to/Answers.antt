@@ -1,6 +1,4 @@
-use Rattle.std.proofs.Common.{sym, subst}
-use Rattle.tilted_rect.specs.Extremes.{IsGrown}
-use Rattle.tilted_rect.specs.Rects.{CanGrowBy}
+use Rattle.tilted_rect.proofs.Vocabulary.{sym, subst, IsGrown, CanGrowBy}
 use Rattle.tilted_rect.proofs.ClusterLemmas.{reaches_apart, has_room}
 use Rattle.tilted_rect.proofs.cluster.Cluster.grown_to.Goals as goal
 

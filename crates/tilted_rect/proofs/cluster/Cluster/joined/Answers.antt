@@ -1,6 +1,4 @@
-use Rattle.std.proofs.Common.{rules}
-use Rattle.std.proofs.lemmas.Int.{to_z-of_z}
-use Rattle.std.specs.Int.{w128}
+use Rattle.tilted_rect.proofs.Vocabulary.{rules, to_z-of_z, w128}
 use Rattle.tilted_rect.proofs.ClusterLemmas.{clusters_meet, joined_is, joined_sinks, some_meeting}
 use Rattle.tilted_rect.proofs.cluster.Cluster.joined.Goals as goal
 

@@ -1,7 +1,4 @@
-use Rattle.std.proofs.Common.{rules, ap, ◌∙◌, ◌+ℤ◌, sym, subst}
-use Rattle.std.proofs.lemmas.Int.{to_z-of_z}
-use Rattle.std.specs.Int.{w128}
-use Rattle.cts_model.specs.placement.Points.{IsMultipleOf}
+use Rattle.tilted_rect.proofs.Vocabulary.{rules, ap, ◌∙◌, ◌+ℤ◌, sym, subst, to_z-of_z, w128, IsMultipleOf}
 use Rattle.tilted_rect.proofs.ClusterLemmas.{even_twice, half_is, IsJoinedReach, reaches_summed}
 use Rattle.tilted_rect.proofs.CodeNumbers.{kept}
 use Rattle.tilted_rect.proofs.cluster.Cluster.joined_reach.Goals as goal

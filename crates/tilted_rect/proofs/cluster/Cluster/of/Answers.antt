@@ -1,6 +1,4 @@
-use Rattle.std.proofs.Common.{[], ◌∷◌, rules}
-use Rattle.std.proofs.lemmas.Int.{to_z-of_z}
-use Rattle.std.specs.Int.{w128}
+use Rattle.tilted_rect.proofs.Vocabulary.{[], ◌∷◌, rules, to_z-of_z, w128}
 use Rattle.tilted_rect.proofs.ClusterLemmas.{one_sink, one_tree_sink}
 use Rattle.tilted_rect.proofs.cluster.Cluster.of.Goals as goal
 

@@ -1,8 +1,4 @@
-use Rattle.std.proofs.Common.{sym, ap, subst, ◌∙◌, rules}
-use Rattle.std.proofs.lemmas.Int.{to_z-of_z}
-use Rattle.std.specs.Int.{w128, int_max}
-use Rattle.tilted_rect.specs.Intervals.{between}
-use Rattle.tilted_rect.specs.Rects.{IsLeastDistance}
+use Rattle.tilted_rect.proofs.Vocabulary.{sym, ap, subst, ◌∙◌, rules, to_z-of_z, w128, int_max, between, IsLeastDistance}
 use Rattle.tilted_rect.proofs.CodeNumbers.{kept, between_read}
 use Rattle.tilted_rect.proofs.RectLemmas.{gap_is_least}
 use Rattle.tilted_rect.proofs.rect.Rect.gap.Goals as goal

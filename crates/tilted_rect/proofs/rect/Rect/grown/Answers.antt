@@ -1,5 +1,4 @@
-use Rattle.std.proofs.Common.{rules, arith}
-use Rattle.std.proofs.lemmas.Int.{ints}
+use Rattle.tilted_rect.proofs.Vocabulary.{rules, arith, ints}
 use Rattle.tilted_rect.proofs.CodeNumbers.{below_fits, difference_read, sum_read}
 use Rattle.tilted_rect.proofs.RectLemmas.{is_rect_along, grown_valid, grown_points}
 use Rattle.tilted_rect.proofs.rect.Rect.grown.Goals as goal

@@ -1,6 +1,4 @@
-use Rattle.std.proofs.Common.{refl, rules, arith}
-use Rattle.std.proofs.lemmas.Int.{ints}
-use Rattle.std.specs.Int.{int_max, int_min}
+use Rattle.tilted_rect.proofs.Vocabulary.{refl, rules, arith, ints, int_max, int_min}
 use Rattle.tilted_rect.proofs.CodeNumbers.{two_read}
 use Rattle.tilted_rect.proofs.RectLemmas.{is_rect_along, meet_valid, meet_points, gap_above_u, gap_above_v, gap_none}
 use Rattle.tilted_rect.proofs.rect.Rect.meet.Goals as goal

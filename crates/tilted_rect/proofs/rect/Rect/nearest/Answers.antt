@@ -1,6 +1,4 @@
-use Rattle.std.proofs.Common.{sym, subst, rules}
-use Rattle.cts_model.specs.placement.Points.{IsUvMultipleOf}
-use Rattle.tilted_rect.specs.Rects.{IsNearest}
+use Rattle.tilted_rect.proofs.Vocabulary.{sym, subst, rules, IsUvMultipleOf, IsNearest}
 use Rattle.tilted_rect.proofs.CodeNumbers.{clamp_read}
 use Rattle.tilted_rect.proofs.RectLemmas.{clamped_nearest, clamped_multiple}
 use Rattle.tilted_rect.proofs.rect.Rect.nearest.Goals as goal

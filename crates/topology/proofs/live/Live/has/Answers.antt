@@ -1,9 +1,5 @@
-use Rattle.std.proofs.Common.{◌≡◌, None, Some, rules, sym, ap, refl, ◌∙◌}
-use Rattle.std.specs.Int.{w128}
-use Rattle.std.proofs.lemmas.Bool.{eqb-true, eq-eqb}
-use Rattle.std.proofs.lemmas.Int.{to_z-of_z}
+use Rattle.topology.proofs.Vocabulary.{◌≡◌, None, Some, rules, sym, ap, refl, ◌∙◌, w128, eqb-true, eq-eqb, to_z-of_z, Pair}
 use mir.Val.{to_z, of_z}
-use Rattle.topology.specs.declared.pair.Pair.{Pair}
 use Rattle.topology.proofs.PairLemmas.{has_found}
 use Rattle.topology.proofs.live.Live.has.Goals as goal
 

@@ -1,7 +1,4 @@
-use Rattle.std.proofs.Common.{◌≡◌, None, Some, rules, sym, ◌∙◌}
-use Rattle.std.specs.Int.{w128}
-use Rattle.std.proofs.lemmas.Int.{to_z-of_z}
-use Rattle.tilted_rect.specs.declared.cluster.Cluster.{Cluster}
+use Rattle.topology.proofs.Vocabulary.{◌≡◌, None, Some, rules, sym, ◌∙◌, w128, to_z-of_z, Cluster}
 use Rattle.topology.proofs.PairLemmas.{found_pair, no_pair}
 use Rattle.topology.proofs.live.Live.pair.Goals as goal
 

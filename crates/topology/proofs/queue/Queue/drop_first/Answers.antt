@@ -1,5 +1,4 @@
-use Rattle.std.specs.BinaryHeap.{heap_items}
-use Rattle.std.proofs.Common.{map, arith}
+use Rattle.topology.proofs.Vocabulary.{heap_items, map, arith}
 use Rattle.topology.proofs.QueueLemmas.{pair_in, put_none, taken_from}
 use Rattle.topology.proofs.queue.Queue.drop_first.Goals as goal
 

@@ -1,6 +1,5 @@
-use Rattle.std.specs.BinaryHeap.{heap_items}
-use Rattle.std.proofs.Common.{All, subst}
-use Rattle.topology.specs.Pairs.{IsBefore}
+use Rattle.topology.proofs.Vocabulary.{heap_items, subst, IsBefore}
+use Rattle.std.proofs.Common.{All}
 use Rattle.topology.proofs.QueueLemmas.{least_on_top}
 use Rattle.topology.proofs.queue.Queue.first.Goals as goal
 

@@ -1,7 +1,4 @@
-use Rattle.std.specs.BinaryHeap.{heap_items}
-use Rattle.std.specs.List.Sorted.{IsPermutation}
-use Rattle.std.proofs.Common.{◌∷◌, map, subst}
-use Rattle.std.proofs.lemmas.List.Sorted.{IsPermutation-map}
+use Rattle.topology.proofs.Vocabulary.{heap_items, IsPermutation, ◌∷◌, map, subst, IsPermutation-map}
 use Rattle.topology.proofs.QueueLemmas.{pair_in}
 use Rattle.topology.proofs.queue.Queue.push.Goals as goal
 

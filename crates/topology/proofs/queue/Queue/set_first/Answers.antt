@@ -1,6 +1,4 @@
-use Rattle.std.specs.BinaryHeap.{heap_items}
-use Rattle.std.proofs.Common.{rules}
-use Rattle.std.proofs.lemmas.Option.{MatchOption-at_some}
+use Rattle.topology.proofs.Vocabulary.{heap_items, rules, MatchOption-at_some}
 use Rattle.topology.proofs.QueueLemmas.{put_pair}
 use Rattle.topology.proofs.queue.Queue.set_first.Goals as goal
 

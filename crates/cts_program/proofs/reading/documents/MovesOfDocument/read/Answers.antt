@@ -1,6 +1,5 @@
-use Rattle.cts_base.proofs.Told.{told_ok}
+use Rattle.cts_program.proofs.Vocabulary.{told_ok, moves_in}
 use Rattle.move_session.specs.declared.fault.MovesFault.TheVariants.{NoMemory}
-use Rattle.move_session.specs.Moves.{moves_in}
 use Rattle.cts_program.proofs.WireTexts.{near_moves}
 use Rattle.cts_program.proofs.reading.documents.MovesOfDocument.read.Goals as goal
 

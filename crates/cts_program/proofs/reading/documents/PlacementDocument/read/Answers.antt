@@ -1,7 +1,5 @@
-use Rattle.std.proofs.Common.{refl}
-use Rattle.cts_base.proofs.Told.{told_ok}
+use Rattle.cts_program.proofs.Vocabulary.{refl, told_ok, problem_of}
 use Rattle.place_reader.specs.declared.fault.PlaceFault.TheVariants.{NoMemory}
-use Rattle.cts_engine.proofs.ProblemLemmas.{problem_of}
 use Rattle.cts_program.proofs.FileFaults.{unplaced_told}
 use Rattle.cts_program.proofs.reading.documents.PlacementDocument.read.Goals as goal
 

@@ -1,0 +1,28 @@
+-- The words that the proofs of this crate have in common.
+pub use Rattle.std.proofs.Common.{◌≡◌, ℕ, ◌+◌, Bool, true, false, ◌||◌, cond, List, [], ◌∷◌, ◌++◌, map, take, Some, refl, sym, ap, ◌∙◌, IsTrue, length, None, Result, Ok, Err, subst, append_assoc, append-nil, ◌<◌, Option, arith, ◌≤◌, drop, suc, inl, inr}
+pub use Rattle.std.proofs.Math.Bool.{or-false, or-true}
+pub use Rattle.std.proofs.lemmas.List.{map_push, take_more, length-map, drop_all}
+pub use Rattle.std.proofs.lemmas.List.Folds.{list_any-append}
+pub use Rattle.std.proofs.lemmas.Option.{slice_get_within, get_or_from_slice_get}
+pub use Rattle.std.proofs.lemmas.Result.{IfErr-weaker, err_from_is_err_and}
+pub use Rattle.std.proofs.lemmas.Slice.Eq.{bytes_eq-Decides}
+pub use Rattle.std.specs.List.{list_any, slice_get}
+pub use Rattle.std.specs.Map.{lookup}
+pub use Rattle.std.specs.Option.{option_map, option_or, option_to_list, option_map_or}
+pub use Rattle.std.specs.Result.{result_ok, result_map_both}
+pub use Rattle.std.specs.Str.{bytes_eq}
+pub use Rattle.cts_base.proofs.ListTests.{list_any-map}
+pub use Rattle.cts_base.specs.LineFormats.{first_fault, first_fault_after, unless_faulty, IsFaultOf}
+pub use Rattle.cts_base.specs.Lines.{lines_of}
+pub use Rattle.cts_base.specs.declared.number.NumberFault.{NumberFault}
+pub use Rattle.cts_model.specs.declared.circuit.Circuit.{Circuit}
+pub use Rattle.cts_model.specs.declared.place.Point.{Point}
+pub use Rattle.cts_model.specs.placement.Coordinates.{point_of}
+pub use Rattle.cts_model.specs.placement.PlaceLines.{Entry, Blank, Header, Stands, entry_after, entry_of_words, has_begun, is_not_blank, place_words}
+pub use Rattle.place_reader.specs.Names.{AreSameNames}
+unfoldable pub use Rattle.place_reader.specs.Placements.{places_in}
+pub use Rattle.place_reader.specs.Placements.{is_among, entry_fault, fault_of, node_fault, place_by, place_of, places_after, AcceptsPlacement, RefusesPlacement, points_from, register_nodes, wanted_nodes, with_source, node_name}
+pub use Rattle.place_reader.specs.Taken.{AreSamePlaces, HasTaken, TakesLine, wanted_place}
+pub use Rattle.place_reader.specs.View.{is_written, said_by}
+pub use Rattle.place_reader.specs.declared.fault.PlaceFault.{PlaceFault}
+pub use Rattle.place_reader.specs.declared.fault.PlaceFault.TheVariants.{NoPlace, NoMemory}

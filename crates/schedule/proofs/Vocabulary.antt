@@ -1,0 +1,25 @@
+-- The words that the proofs of this crate have in common.
+pub use Rattle.std.proofs.Common.{ℕ, zero, suc, ◌≡◌, ◌<◌, ◌≤◌, ◌+◌, ◌-◌, ◌*◌, ◌^◌, ℤ, pos, negsuc, ◌+ℤ◌, ◌-ℤ◌, ◌*ℤ◌, ◌≤ℤ◌, Bool, true, false, cond, List, All, length, get_or, inl, inr, sym, subst, refl, arith, ◌∙◌, ◌<ℤ◌, Contains, true≢false, ap, ◌≢◌, ◌⊎◌, if◌then◌else◌, [], ◌∷◌, replicate, ◌↔◌, nat_eq, FitsSigned, IsTrue, rules}
+pub use Rattle.std.proofs.lemmas.Bool.{cases_eq, cases_lt}
+pub use Rattle.std.proofs.lemmas.Int.{ints}
+pub use Rattle.std.proofs.lemmas.List.{get_or_default, get_or_read, get_or-set_same, get_or-set_other, get_or_append_left, length-set, length-append, get_or-replicate, length-replicate}
+pub use Rattle.std.proofs.lemmas.Result.{on_ok_weaker}
+pub use Rattle.std.specs.Int.{w128}
+pub use Rattle.std.specs.Prelude.{nat_abs}
+pub use Rattle.cts_base.specs.declared.fraction.Fraction.{Fraction}
+pub use Rattle.cts_model.specs.declared.constraint.Constraint.{Constraint}
+pub use Rattle.cts_model.specs.declared.schedule.Lead.TheVariants.{Tight, Zero}
+pub use Rattle.cts_model.specs.placement.Points.{IsBelow}
+pub use Rattle.cts_model.specs.timing.Constraints.{AreSmallConstraints, IsSmallConstraint, Satisfies, count_of}
+pub use Rattle.cts_model.specs.timing.Leads.{IsTight, IsTightLead, depth_of, lead_at, EachLead, IsLead}
+pub use Rattle.cts_model.specs.timing.Schedules.{arrival_of, AreFromZero, IsSmallPeriod}
+pub use Rattle.relaxation.proofs.GainLemmas.{gain_small, kept}
+pub use Rattle.relaxation.proofs.RelaxLemmas.{nowhere}
+pub use Rattle.relaxation.specs.Gains.{SatisfiesGains, gain_of, AdmitsGains}
+pub use Rattle.relaxation.specs.Tails.{IsLastBefore}
+pub use Rattle.relaxation.specs.declared.gains.Gains.{Gains}
+pub use Rattle.schedule.specs.Gains.{AreGainsOf, AreLeastBy, AreLeastArrivalsBy}
+pub use Rattle.schedule.specs.Reaching.{IsAdded, IsGiven, IsGrown, IsHanded, IsHandedBy, IsReachKept, IsReached, IsReaching, IsWhole, IsFromReached, unreached, IsSized}
+pub use Rattle.schedule.specs.Rises.{IsRising, CanRaise}
+pub use Rattle.schedule.specs.Schedules.{AreWithinWeights, CanSchedule, IsLeastScheduleOf, IsAdmittedBy}
+pub use Rattle.schedule.specs.declared.reach.Reach.{Reach}

@@ -1,0 +1,16 @@
+-- The words that the proofs of this crate have in common.
+pub use Rattle.std.proofs.Common.{◌≡◌, ◌≢◌, ℕ, zero, suc, ◌+◌, ◌<◌, List, [], ◌∷◌, ◌++◌, Contains, length, Some, Option, IsSomeAnd, slice_get, slice_set, filter_map, ℤ, ◌+ℤ◌, refl, sym, ap, subst, ◌∙◌, arith, ◌^◌, pos, neg_ℤ, ◌≤ℤ◌, ◌<ℤ◌, ◌-◌, length-append}
+pub use Rattle.std.proofs.lemmas.List.{length-set}
+pub use Rattle.std.proofs.lemmas.List.Elements.{All-cons, All-contains, All-nil, All-set, Contains-append_right}
+pub use Rattle.cts_model.proofs.TopologyLemmas.{numbers_below-merge, numbers_below-sink, some_and, EachMerge, EachMerge-push}
+pub use Rattle.cts_model.specs.declared.place.Sink.{Sink}
+pub use Rattle.cts_model.specs.declared.tree.Merge.{Merge}
+pub use Rattle.cts_model.specs.declared.tree.Show.{Show}
+pub use Rattle.cts_model.specs.tree.Regions.{IsReach, span}
+pub use Rattle.cts_model.specs.tree.ShownReaches.{ShowsMerge}
+pub use Rattle.cts_model.specs.tree.Sinks.{AreTreeSinks, IsTreeSink}
+pub use Rattle.cts_model.specs.tree.Topologies.{IsTopology, numbers_below, sinks_below, IsMerge}
+pub use Rattle.merge_up.proofs.WorkLemmas.{merges_renewed, merges_set, set_kept, IsBegun, begun_next, joined_held}
+pub use Rattle.merge_up.specs.Merging.{HoldsMerge, IsRenewed, IsSinkSet, HoldsSink, IsMerged, IsUnsettled}
+pub use Rattle.merge_up.specs.Works.{WorkState, IsFit}
+pub use Rattle.tilted_rect.specs.Extremes.{IsRegion, Extremes, IsExtremes, u_above, u_below, v_above, v_below}
