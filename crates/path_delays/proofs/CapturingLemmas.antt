@@ -1,6 +1,8 @@
 -- Which registers capture what a walk reached, signal by signal.
-use Rattle.path_delays.proofs.Vocabulary.{ℕ, ◌≡◌, ◌<◌, ◌≤◌, ◌+◌, ◌*◌, ◌⊎◌, ◌==◌, not, false, IsTrue, List, length, get_or, All, Contains, Option, Some, None, inl, inr, refl, sym, ◌∙◌, ap, subst, arith, Contains-get_or, cases_eq, and_parts, and_from, not-true, eqb-false, ne_eqb, true≢false, Circuit, Tech, Groups, bounds_of, group_of, Capturing, NumberSet, Sums, Walk, has_number, AreInserted, AreListed, IsLowestTaken, IsChain, IsReach, HasReach, sums_to, AreCapturersOf, AreCapturedBelow, IsCapturer, HasCaptureRoom, IsSameCapturing, AreAllReached, AreGathered, IsCapturingOf}
+use Rattle.path_delays.proofs.Vocabulary.{ℕ, ◌≡◌, ◌<◌, ◌≤◌, ◌+◌, ◌*◌, ◌⊎◌, ◌==◌, [], ◌∷◌, not, false, slice_index_or, IsPath, IsTrue, List, length, get_or, All, Contains, Option, Some, None, inl, inr, refl, sym, ◌∙◌, ap, subst, arith, Contains-get_or, cases_eq, and_parts, and_from, not-true, eqb-false, ne_eqb, true≢false, Circuit, Tech, Groups, bounds_of, group_of, Capturing, NumberSet, Sums, Walk, has_number, AreInserted, AreListed, IsLowestTaken, IsChain, IsReach, HasReach, sums_to, AreCapturersOf, AreCapturedBelow, IsCapturer, HasCaptureRoom, IsSameCapturing, AreAllReached, AreGathered, IsCapturingOf}
 use Rattle.std.proofs.Common.{IsSome}
+use Rattle.path_delays.specs.declared.capturing.Capture.{Capture}
+use Rattle.path_delays.specs.Capturings.{IsCapture}
 use Rattle.path_delays.proofs.ReachedPairs.{chain_of_path}
 use Rattle.path_delays.proofs.CaptureLemmas.{few_signals, few_registers, capture_within}
 
@@ -15,6 +17,13 @@ pub record IsGathering (walk : Walk) (old now : Capturing) (next : ℕ) : Type 0
       ⊎ IsTrue (has_number now.found.words.items register)
   pub each : (register : ℕ) → IsTrue (has_number now.found.words.items register)
       → (signal : ℕ) × IsCapturer old signal register
+
+-- a list of one
+pub single_list : (signals : List ℕ) → 1 ≤ length signals → length signals < 2
+    → signals ≡ get_or signals 0 0 ∷ []
+single_list [] some few = absurd (omega (arith, some))
+single_list (signal ∷ []) some few = refl
+single_list (signal ∷ other ∷ more) some few = absurd (omega (arith, few))
 
 -- what is as before twice is as before
 same_capturing : (old now later : Capturing) → IsSameCapturing old now → IsSameCapturing now later
@@ -143,6 +152,16 @@ gathering_room walk old now next signal room so_far waits = λ k d inside.
           (sym so_far.same.captured) (so_far.captured signal waits);
       listed = Contains-get_or (group_of now.capturers signal) k d inside;
     })
+
+-- no path leads to a register in a lane in which nothing was found
+pub missed_path : (circuit : Circuit) (tech : Tech) (from lane : ℕ) (walk : Walk) (capture : Capture)
+    → HasReach circuit tech from lane walk → IsCapture circuit walk capture → lane < 16
+    → slice_index_or capture.lanes lane false ≡ false → (path : List ℕ)
+    → IsPath circuit from capture.register path → ⊥
+missed_path circuit tech from lane walk capture reach is low missed path is_path =
+    let chain = chain_of_path circuit from capture.register path is_path in
+    subst (IsReach circuit tech from chain.0) (is.missed lane chain.0 low missed chain.2)
+    (reach.each chain.0) path chain.1
 
 module _ (circuit : Circuit) where
   -- room for as many signals and registers is room for those of the circuit

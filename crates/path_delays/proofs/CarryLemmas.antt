@@ -430,3 +430,15 @@ listed_next signals place one low listed =
       | inl earlier ↦ inl earlier
       | inr last ↦ inr (sym last)
     ]
+
+-- the least and the greatest at a single signal
+pub extremes_single : (at : ℕ → Option Sums) (signal : ℕ)
+    → AreExtremesIfAny (StandsAt at (Contains (signal ∷ []))) (at signal)
+extremes_single at signal =
+    subst (AreExtremesIfAny (StandsAt at (Contains (signal ∷ [])))) (either_none (at signal))
+    (extremes_next at [] signal None
+    (λ one (other, (place, within, here), stands). absurd (omega arith)))
+  where
+    either_none : (found : Option Sums) → either_sums None found ≡ found
+    either_none None = refl
+    either_none (Some sums) = refl

@@ -1,13 +1,14 @@
 -- The registers that capture what a walk reached.
-use Rattle.std.specs.Prelude.{◌≡◌, ◌<◌, ◌+◌, ◌*◌, ◌^◌, ℕ, IsTrue, IsSome, List, length, All, AllPairs, Contains}
+use Rattle.std.specs.Prelude.{◌≡◌, ◌<◌, ◌+◌, ◌*◌, ◌^◌, ℕ, false, IsTrue, IsSome, List, [], ◌∷◌, length, map, All, AllPairs, Contains, Some, None, slice_index_or}
 use Rattle.cts_model.specs.declared.circuit.Circuit.{Circuit}
-use Rattle.cts_model.specs.netlist.Paths.{IsPath}
+use Rattle.cts_model.specs.netlist.Paths.{Captures, IsPath}
 use Rattle.gate_order.specs.GroupParts.{bounds_of, group_of}
 use Rattle.path_delays.specs.declared.capturing.Capturing.{Capturing}
+use Rattle.path_delays.specs.declared.capturing.Capture.{Capture}
 use Rattle.path_delays.specs.declared.walk.Walk.{Walk}
 use Rattle.path_delays.specs.NumberSets.{has_number}
 use Rattle.path_delays.specs.WalkParts.{sums_to}
-use Rattle.path_delays.specs.Captured.{AreCapturersOf, AreCapturedBelow}
+use Rattle.path_delays.specs.Captured.{AreCapturedBy, AreCapturersOf, AreCapturedBelow}
 
 -- the signal is one that is captured, and the register among those that capture it
 pub record IsCapturer (capturing : Capturing) (signal register : ℕ) : Type 0 where
@@ -54,3 +55,16 @@ pub record AreAllReached (circuit : Circuit) (from : ℕ) (registers : List ℕ)
   pub within : All (λ to. to < length circuit.registers) registers
   pub ascending : AllPairs ◌<◌ registers
   pub joined : (to : ℕ) (path : List ℕ) → IsPath circuit from to path → Contains registers to
+
+-- what a walk found at what a register captures: the single signal is reached, and nothing is found
+-- in the lanes that are false
+pub record IsCapture (circuit : Circuit) (walk : Walk) (capture : Capture) : Type 0 where
+  pub single : (signal : ℕ) → capture.single ≡ Some signal
+      → AreCapturedBy circuit capture.register (signal ∷ [])
+      × IsTrue (has_number walk.reach.reached.words.items signal)
+  pub missed : (lane signal : ℕ) → lane < 16 → slice_index_or capture.lanes lane false ≡ false
+      → Captures circuit capture.register signal → sums_to walk lane signal ≡ None
+
+-- the registers of captures
+abbrev pub registers_of : List Capture → List ℕ
+registers_of captures = map (λ capture. capture.register) captures

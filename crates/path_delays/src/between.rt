@@ -3,7 +3,7 @@ ghost use Rattle.path_delays.specs.WalkParts.{IsRoomFor};
 ghost use Rattle.path_delays.specs.JoinedPairs.{AreDelaysBetween};
 
 use crate::lanes::block_end;
-use crate::pair::joined_pair;
+use crate::pair::{captured_sums, joined_pair};
 use crate::walk::Walk;
 use cts_base::{Listed, NoMemory};
 use cts_model::{Circuit, PairDelay, Tech};
@@ -53,7 +53,8 @@ fn push_delays(
     walk.walk_between(circuit, tech, pairs);
     for (lane, pair) in pairs.iter().enumerate() {
         let captured = circuit.register_signal(pair.1 as usize).fan_in.as_slice();
-        delays.push(joined_pair(walk, lane, captured, pair.0, pair.1))?;
+        let sums = captured_sums(walk, lane, captured);
+        delays.push(joined_pair(pair.0, pair.1, sums))?;
     }
     Ok(())
 }

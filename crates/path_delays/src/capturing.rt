@@ -1,6 +1,10 @@
-ghost use Rattle.std.specs.Prelude.{◌≤◌, IfOk, OnOk, length};
+ghost use Rattle.std.specs.Prelude.{◌≡◌, ◌<◌, ◌≤◌, All, IfOk, OnOk, length};
+ghost use Rattle.cts_model.specs.declared.circuit.Circuit.{Circuit};
+ghost use Rattle.path_delays.specs.Captured.{AreCapturedBy};
+ghost use Rattle.path_delays.specs.Capturings.{IsCapture, registers_of};
 
 use crate::captures::{captured_signals, capturers};
+use crate::lanes::LANES;
 use crate::number_set::NumberSet;
 use crate::walk::Walk;
 use cts_base::NoMemory;
@@ -21,6 +25,61 @@ pub(crate) struct Capturing {
     pub(crate) found: NumberSet,
     /// The registers that capture one that the walk reached, in ascending order.
     pub(crate) registers: Vec<u32>,
+    /// What the walk found at what each of these captures.
+    pub(crate) captures: Vec<Capture>,
+}
+
+/// What a walk found at what a register captures.
+#[derive(Clone, Copy, Debug)]
+pub(crate) struct Capture {
+    /// The register.
+    pub(crate) register: u32,
+    /// The signal, if it is a single one and the walk reached it.
+    pub(crate) single: Option<u32>,
+    /// Whether the walk may have found anything in each lane.
+    pub(crate) lanes: [bool; 16],
+}
+
+/// Lists what a walk found at what each of these registers captures.
+pub(crate) fn list_captures(
+    captures: &mut Vec<Capture>,
+    walk: &Walk,
+    circuit: &Circuit,
+    registers: &[u32],
+) -> Result<(), NoMemory>
+    requires { All (λ register. register < length circuit.now.registers) registers.now }
+    ensures registers { OnOk result (registers_of captures.new.items ≡ registers.now) }
+    ensures each { OnOk result (All (IsCapture circuit.now walk.now) captures.new.items) }
+{
+    captures.clear();
+    for register in registers {
+        let captured = circuit
+            .register_signal(*register as usize)
+            .fan_in
+            .as_slice();
+        captures.push(capture_of(walk, *register, captured))?;
+    }
+    Ok(())
+}
+
+// What a walk found at the signals that a register captures.
+fn capture_of(walk: &Walk, register: u32, captured: &[u32]) -> Capture
+    ensures register { result.register ≡ register }
+    ensures capture { (circuit : Circuit) → AreCapturedBy circuit register captured.now
+        → IsCapture circuit walk.now result }
+{
+    match captured {
+        [signal] if walk.reaches(*signal) => Capture {
+            register,
+            single: Some(*signal),
+            lanes: walk.lanes_to(*signal),
+        },
+        _ => Capture {
+            register,
+            single: None,
+            lanes: [true; LANES],
+        },
+    }
 }
 
 impl Capturing {
@@ -40,6 +99,7 @@ impl Capturing {
             reached,
             found,
             registers: Vec::new(alloc),
+            captures: Vec::new(alloc),
         })
     }
 

@@ -1,4 +1,4 @@
-ghost use Rattle.std.specs.Prelude.{◌≡◌, ◌<◌, ◌==◌, ℕ, IfOk, length, if◌then◌else◌, slice_get};
+ghost use Rattle.std.specs.Prelude.{◌≡◌, ◌<◌, ◌==◌, ℕ, false, None, IfOk, length, if◌then◌else◌, slice_get, slice_index_or};
 ghost use Rattle.std.specs.Option.{option_map, option_and_then};
 
 use crate::lanes::Lanes;
@@ -7,11 +7,12 @@ use crate::sums::Sums;
 use cts_base::NoMemory;
 use std::alloc::Global;
 
-/// The sums to each signal, in lanes: of 32 bits where no path takes more ticks than they hold, as
-/// twice as many then stand side by side in memory.
+/// The sums to each signal, in lanes: of 32 bits where those are sure to hold all sums, as twice as
+/// many then stand side by side in memory.
 #[derive(Drop)]
 pub(crate) enum LaneTable {
-    /// Where no path takes more than 2^29 - 1 ticks.
+    /// Where the greatest delays of all gates together, and a million ticks for the register, are
+    /// at most 2^29 - 1.
     Narrow(Vec<NarrowLanes>),
     /// All others.
     Wide(Vec<Lanes>),
@@ -23,7 +24,7 @@ impl LaneTable {
     ghost use Rattle.path_delays.specs.NarrowParts.{narrow_limit};
     ghost use Rattle.path_delays.specs.SumParts.{AreWithin, delay_limit, merged_sums, no_sums, some_sums, sums_through};
 
-    /// Lanes for so many signals, short where 32 bits hold all sums.
+    /// Lanes for so many signals, of 32 bits for a short network.
     pub(crate) fn new(alloc: Global, signals: usize, short: bool) -> Result<LaneTable, NoMemory>
         ensures rows { IfOk result (λ table. length (rows_of table) ≡ signals) }
         ensures limit { IfOk result
@@ -42,8 +43,25 @@ impl LaneTable {
         ensures { result ≡ option_and_then some_sums (lane_in (rows_of self.now) signal lane) }
     {
         match self {
-            LaneTable::Narrow(rows) => rows.get(signal)?.in_lane(lane).some(),
-            LaneTable::Wide(rows) => rows.get(signal)?.in_lane(lane).some(),
+            LaneTable::Narrow(rows) => rows.get(signal)?.in_lane(lane),
+            LaneTable::Wide(rows) => rows.get(signal)?.in_lane(lane),
+        }
+    }
+
+    /// False only in lanes in which a signal has no sums.
+    pub(crate) fn filled(&self, signal: usize) -> [bool; 16]
+        ensures { (lane : ℕ) → lane < 16 → slice_index_or result lane false ≡ false
+            → option_and_then some_sums (lane_in (rows_of self.now) signal lane) ≡ None }
+    {
+        match self {
+            LaneTable::Narrow(rows) => match rows.get(signal) {
+                Some(lanes) => lanes.filled(),
+                None => [true; 16],
+            },
+            LaneTable::Wide(rows) => match rows.get(signal) {
+                Some(lanes) => lanes.filled(),
+                None => [true; 16],
+            },
         }
     }
 

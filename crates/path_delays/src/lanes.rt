@@ -1,4 +1,4 @@
-ghost use Rattle.std.specs.Prelude.{◌≡◌, ◌<◌, ◌≤◌, ◌+◌, ◌≢◌, ℕ};
+ghost use Rattle.std.specs.Prelude.{◌≡◌, ◌<◌, ◌≤◌, ◌+◌, ◌≢◌, ℕ, false, None, slice_index_or};
 
 use crate::sums::Sums;
 
@@ -12,7 +12,7 @@ pub(crate) struct Lanes {
 }
 
 impl Lanes {
-    ghost use Rattle.path_delays.specs.SumParts.{AreWithin, delay_limit, merged_sums, no_sums, sums_through};
+    ghost use Rattle.path_delays.specs.SumParts.{AreWithin, delay_limit, merged_sums, no_sums, some_sums, sums_through};
     ghost use Rattle.path_delays.specs.LaneParts.{AllBounded, lane_of};
 
     /// No sums in any lane.
@@ -24,12 +24,24 @@ impl Lanes {
         }
     }
 
-    /// The sums in a lane.
-    pub(crate) fn in_lane(&self, lane: usize) -> Sums
+    /// The sums in a lane, if there are any.
+    pub(crate) fn in_lane(&self, lane: usize) -> Option<Sums>
         requires { lane < 16 }
-        ensures { result ≡ lane_of self.now lane }
+        ensures { result ≡ some_sums (lane_of self.now lane) }
     {
-        self.sums[lane]
+        self.sums[lane].some()
+    }
+
+    /// False in lanes that have no sums.
+    pub(crate) fn filled(&self) -> [bool; 16]
+        ensures { (lane : ℕ) → lane < 16 → slice_index_or result lane false ≡ false
+            → some_sums (lane_of self.now lane) ≡ None }
+    {
+        let mut filled = [false; LANES];
+        for lane in 0..LANES {
+            filled[lane] = self.sums[lane].greatest >= 0;
+        }
+        filled
     }
 
     /// In one lane the least and the greatest of both.

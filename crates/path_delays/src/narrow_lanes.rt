@@ -1,4 +1,4 @@
-ghost use Rattle.std.specs.Prelude.{◌≡◌, ◌<◌, ◌≢◌, ℕ, pos, ◌+ℤ◌, ◌≤ℤ◌};
+ghost use Rattle.std.specs.Prelude.{◌≡◌, ◌<◌, ◌≢◌, ℕ, false, None, pos, ◌+ℤ◌, ◌≤ℤ◌, slice_index_or};
 ghost use Rattle.std.specs.Int.{int_min, int_max};
 ghost use Rattle.cts_model.specs.table.Tables.{IsWithin};
 
@@ -58,8 +58,9 @@ fn narrow(ticks: i64) -> Ticks
     }
 }
 
-/// The sums to a signal from several registers, in a lane each, where no path takes more ticks than
-/// 32 bits hold: the least sums of all lanes side by side, and the greatest.
+/// The sums to a signal from several registers, in a lane each, where the greatest delays of all
+/// gates together, and a million ticks for the register, are at most 2^29 - 1: the least sums of all
+/// lanes side by side, and the greatest.
 #[derive(Clone, Copy, Debug)]
 pub(crate) struct NarrowLanes {
     least: [Ticks; 16],
@@ -68,7 +69,7 @@ pub(crate) struct NarrowLanes {
 
 impl NarrowLanes {
     ghost use Rattle.path_delays.specs.NarrowParts.{ArePassable, greatest_in, least_in, narrow_limit, sums_in};
-    ghost use Rattle.path_delays.specs.SumParts.{AreWithin, no_sums};
+    ghost use Rattle.path_delays.specs.SumParts.{AreWithin, no_sums, some_sums};
 
     /// No sums in any lane.
     pub(crate) fn none() -> NarrowLanes
@@ -80,25 +81,34 @@ impl NarrowLanes {
         }
     }
 
-    /// The sums in a lane.
-    pub(crate) fn in_lane(&self, lane: usize) -> Sums
+    /// The sums in a lane, if there are any.
+    pub(crate) fn in_lane(&self, lane: usize) -> Option<Sums>
         requires { lane < 16 }
-        ensures { result ≡ sums_in self.now lane }
+        ensures { result ≡ some_sums (sums_in self.now lane) }
     {
-        let least = i64::from(self.least[lane].ticks);
         let greatest = i64::from(self.greatest[lane].ticks);
-        Sums {
-            least: if least < i64::from(FAR) {
-                least
-            } else {
-                least + FURTHER
-            },
-            greatest: if greatest < 0 {
-                greatest - FURTHER
-            } else {
-                greatest
-            },
+        if greatest < 0 {
+            return None;
         }
+        let least = i64::from(self.least[lane].ticks);
+        let least = if least < i64::from(FAR) {
+            least
+        } else {
+            least + FURTHER
+        };
+        Some(Sums { least, greatest })
+    }
+
+    /// False in lanes that have no sums.
+    pub(crate) fn filled(&self) -> [bool; 16]
+        ensures { (lane : ℕ) → lane < 16 → slice_index_or result lane false ≡ false
+            → some_sums (sums_in self.now lane) ≡ None }
+    {
+        let mut filled = [false; LANES];
+        for lane in 0..LANES {
+            filled[lane] = self.greatest[lane].ticks >= 0;
+        }
+        filled
     }
 
     /// In one lane the least and the greatest of both.

@@ -1,7 +1,8 @@
-ghost use Rattle.std.specs.Prelude.{◌≡◌, ◌<◌, length, Contains, IfOk};
+ghost use Rattle.std.specs.Prelude.{◌≡◌, ◌<◌, ℕ, List, length, Contains, IfOk};
 ghost use Rattle.cts_model.specs.declared.circuit.Circuit.{Circuit};
 ghost use Rattle.cts_model.specs.declared.tech.Tech.{Tech};
 ghost use Rattle.gate_order.specs.LevelParts.{IsLevelsOf};
+ghost use Rattle.path_delays.specs.declared.walk.Walk.{Walk};
 ghost use Rattle.path_delays.specs.WalkParts.{ReachesEach, sums_to};
 ghost use Rattle.path_delays.specs.Captured.{AreCapturedBy};
 ghost use Rattle.path_delays.specs.Carrying.{AreExtremesIfAny, StandsAt};
@@ -37,23 +38,17 @@ pub fn pair_delay(
     let mut walk = Walk::new(alloc, circuit, levels, tech)?;
     walk.walk_between(circuit, tech, &[(from, to)]);
     let captured = circuit.register_signal(to as usize).fan_in.as_slice();
-    Ok(joined_pair(&walk, 0, captured, from, to))
+    Ok(joined_pair(from, to, captured_sums(&walk, 0, captured)))
 }
 
-/// The delays from the register in a lane of a walk to another, which captures these signals.
-pub(crate) fn joined_pair(
-    walk: &Walk,
-    lane: usize,
-    captured: &[u32],
-    from: u32,
-    to: u32,
-) -> Option<PairDelay>
-    requires { lane < 16 }
-    ensures { (circuit : Circuit) (tech : Tech) → AreCapturedBy circuit to captured.now
-        → ReachesEach circuit tech from lane captured.now walk.now
+/// The delays from one register to another, of what a walk found at the signals that this captures.
+pub(crate) fn joined_pair(from: u32, to: u32, found: Option<Sums>) -> Option<PairDelay>
+    ensures { (circuit : Circuit) (tech : Tech) (lane : ℕ) (walk : Walk) (captured : List ℕ)
+        → AreCapturedBy circuit to captured → ReachesEach circuit tech from lane captured walk
+        → AreExtremesIfAny (StandsAt (sums_to walk lane) (Contains captured)) found
         → IsJoinedBy circuit tech from to result }
 {
-    let sums = captured_sums(walk, lane, captured)?;
+    let sums = found?;
     Some(PairDelay {
         from,
         to,
@@ -62,7 +57,7 @@ pub(crate) fn joined_pair(
     })
 }
 
-// The least and the greatest of what a walk found at some signals in a lane.
+/// The least and the greatest of what a walk found at some signals in a lane.
 pub(crate) fn captured_sums(walk: &Walk, lane: usize, signals: &[u32]) -> Option<Sums>
     requires { lane < 16 }
     ensures { AreExtremesIfAny (StandsAt (sums_to walk.now lane) (Contains signals.now)) result }

@@ -1,15 +1,15 @@
-ghost use Rattle.std.specs.Prelude.{◌≡◌, ◌<◌, ◌≤◌, ◌+◌, ◌-◌, ◌++◌, ℕ, length, vec_len, IfOk, IfErr, OnOk};
+ghost use Rattle.std.specs.Prelude.{◌≡◌, ◌<◌, ◌≤◌, ◌+◌, ◌-◌, ◌++◌, ℕ, All, length, vec_len, IfOk, IfErr, OnOk};
 ghost use Rattle.std.specs.Option.{option_to_list};
 ghost use Rattle.cts_model.specs.declared.tech.Tech.{Tech};
 ghost use Rattle.cts_model.specs.timing.PairLists.{JoinsMoreThan};
 ghost use Rattle.path_delays.specs.WalkParts.{HasReach, IsRoomFor};
-ghost use Rattle.path_delays.specs.Capturings.{AreAllReached, IsCapturingOf};
-ghost use Rattle.path_delays.specs.JoinedPairs.{ListsPairsBefore, ArePairs, ShowsTooMany, MeetsLimit, pair_limit};
+ghost use Rattle.path_delays.specs.Capturings.{AreAllReached, IsCapture, IsCapturingOf, registers_of};
+ghost use Rattle.path_delays.specs.JoinedPairs.{ListsPairsBefore, ArePairs, IsJoinedBy, ShowsTooMany, MeetsLimit, pair_limit};
 
 use crate::PairFault;
-use crate::capturing::Capturing;
+use crate::capturing::{Capture, Capturing, list_captures};
 use crate::lanes::{LANES, block_end};
-use crate::pair::joined_pair;
+use crate::pair::{captured_sums, joined_pair};
 use crate::walk::Walk;
 use cts_base::Listed;
 use cts_model::{Circuit, PairDelay, Tech};
@@ -68,8 +68,10 @@ fn push_block(
     walk_block(walk, circuit, tech, first, end);
     capturing.gather(walk)?;
     let registers = capturing.registers.as_slice();
+    list_captures(&mut capturing.captures, walk, circuit, registers)?;
+    let captures = capturing.captures.as_slice();
     for from in first..end {
-        push_pairs_from(pairs, walk, registers, circuit, from - first, from as u32)?;
+        push_pairs_from(pairs, walk, captures, circuit, from - first, from as u32)?;
     }
     Ok(())
 }
@@ -91,18 +93,19 @@ fn walk_block(walk: &mut Walk, circuit: &Circuit, tech: &Tech, first: usize, end
     walk.walk_from(circuit, tech, &registers[..end - first]);
 }
 
-// Appends the pairs of the register that launches, which is walked from in a lane. The registers
-// are those that the walk reaches.
+// Appends the pairs of the register that launches, which is walked from in a lane, with what the
+// walk found at the registers that it reaches.
 fn push_pairs_from(
     pairs: &mut Vec<PairDelay>,
     walk: &Walk,
-    registers: &[u32],
+    captures: &[Capture],
     circuit: &Circuit,
     lane: usize,
     from: u32,
 ) -> Result<(), PairFault>
     requires lane { lane < 16 }
-    requires registers { AreAllReached circuit.now from registers.now }
+    requires registers { AreAllReached circuit.now from (registers_of captures.now) }
+    requires captures { All (IsCapture circuit.now walk.now) captures.now }
     requires few { vec_len pairs.old ≤ pair_limit }
     ensures few { OnOk result (vec_len pairs.new ≤ pair_limit) }
     ensures listed { OnOk result ((tech : Tech) → HasReach circuit.now tech from lane walk.now
@@ -113,11 +116,37 @@ fn push_pairs_from(
         → ListsPairsBefore circuit.now tech from 0 pairs.old.items
         → ShowsTooMany circuit.now fault) }
 {
-    for to in registers {
-        let captured = circuit.register_signal(*to as usize).fan_in.as_slice();
-        push_joined(pairs, joined_pair(walk, lane, captured, from, *to))?;
+    for capture in captures {
+        if !capture.lanes[lane] {
+            continue;
+        }
+        push_joined(pairs, joined_to(walk, circuit, lane, from, capture))?;
     }
     Ok(())
+}
+
+// The delays from the register in a lane to another one, of which a walk found this.
+fn joined_to(
+    walk: &Walk,
+    circuit: &Circuit,
+    lane: usize,
+    from: u32,
+    capture: &Capture,
+) -> Option<PairDelay>
+    requires lane { lane < 16 }
+    requires to { capture.now.register < length circuit.now.registers }
+    requires capture { IsCapture circuit.now walk.now capture.now }
+    ensures { (tech : Tech) → HasReach circuit.now tech from lane walk.now
+        → IsJoinedBy circuit.now tech from capture.now.register result }
+{
+    let to = capture.register;
+    match capture.single {
+        Some(signal) => joined_pair(from, to, walk.held_sums(lane, signal)),
+        None => {
+            let captured = circuit.register_signal(to as usize).fan_in.as_slice();
+            joined_pair(from, to, captured_sums(walk, lane, captured))
+        }
+    }
 }
 
 // Appends a pair, if there is one.

@@ -26,8 +26,7 @@ impl Reach {
     ghost use Rattle.path_delays.specs.NarrowParts.{narrow_limit};
     ghost use Rattle.path_delays.specs.Handing.{HasReachRoom, IsCleared, IsHanded, IsHandedOn, IsMarked, IsOpened, IsSameRoom, IsStarted, lanes_at, limit_of, sums_at};
 
-    /// Nothing reached yet, with room for so many signals and gates, all of whose paths may be
-    /// short.
+    /// Nothing reached yet, with room for so many signals and gates, of a short network or another.
     pub(crate) fn new(
         alloc: Global,
         signals: u32,

@@ -1,4 +1,4 @@
-ghost use Rattle.std.specs.Prelude.{◌≡◌, ◌<◌, ◌≤◌, ◌+◌, All, IfOk, length};
+ghost use Rattle.std.specs.Prelude.{◌≡◌, ◌<◌, ◌≤◌, ◌+◌, ℕ, false, None, All, IfOk, IsTrue, length, slice_index_or};
 
 use crate::lanes::LANES;
 use crate::launching::{launched, start_sums};
@@ -20,7 +20,7 @@ pub(crate) struct Walk {
 
 impl Walk {
     ghost use Rattle.gate_order.specs.LevelParts.{IsLevelsOf};
-    ghost use Rattle.path_delays.specs.NumberSets.{IsCommon};
+    ghost use Rattle.path_delays.specs.NumberSets.{IsCommon, has_number};
     ghost use Rattle.path_delays.specs.WalkParts.{HaveReach, HaveReachBetween, IsRoomFor, sums_to};
 
     /// Room for walks over a circuit.
@@ -89,6 +89,30 @@ impl Walk {
         ensures { result ≡ sums_to self.now lane signal }
     {
         self.reach.sums_at(lane, signal)
+    }
+
+    /// Whether any register reaches the signal.
+    pub(crate) fn reaches(&self, signal: u32) -> bool
+        ensures { result ≡ has_number self.now.reach.reached.words.items signal }
+    {
+        self.reach.reached.contains(signal)
+    }
+
+    /// The sums to a signal that some register reaches from the one in a lane, likewise.
+    pub(crate) fn held_sums(&self, lane: usize, signal: u32) -> Option<Sums>
+        requires lane { lane < 16 }
+        requires held { IsTrue (has_number self.now.reach.reached.words.items signal) }
+        ensures { result ≡ sums_to self.now lane signal }
+    {
+        self.reach.lanes.sums(signal as usize, lane)
+    }
+
+    /// False only in lanes whose register doesn't reach the signal.
+    pub(crate) fn lanes_to(&self, signal: u32) -> [bool; 16]
+        ensures { (lane : ℕ) → lane < 16 → slice_index_or result lane false ≡ false
+            → sums_to self.now lane signal ≡ None }
+    {
+        self.reach.lanes.filled(signal as usize)
     }
 }
 

@@ -16,9 +16,11 @@ loop-lane-preserved c passed before =
     let captured = captured_is_fan_in circuit pair.1 c.register_signal.result.now
     c.register_signal.ensures in
     let joined : IsJoinedBy circuit tech pair.0 pair.1 c.joined_pair.result =
-    c.joined_pair.ensures circuit tech (rw c.as_slice-captured.ensures captured)
+    c.joined_pair.ensures circuit tech lane c.walk_between.new.self _
+    (rw c.as_slice-captured.ensures captured)
     (rw c.as_slice-captured.ensures (λ signal listed.
-    reach.each signal (reach.captured signal ((captured signal).0 listed)))) in
+    reach.each signal (reach.captured signal ((captured signal).0 listed))))
+    c.captured_sums-sums.ensures in
     let more = between_push circuit tech (passed ++ take lane pairs) pair
     c.loop-lane.delays.items c.joined_pair.result joined
     (c.loop-lane.invariant passed before) in

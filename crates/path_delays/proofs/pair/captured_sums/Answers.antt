@@ -1,28 +1,13 @@
 -- One signal more, and all of them.
-use Rattle.path_delays.proofs.Vocabulary.{◌≡◌, ◌<◌, ◌≤◌, ◌∷◌, [], ℕ, List, length, Option, Some, None, Contains, take, get_or, arith, refl, subst, take_all, take_more, Sums, either_sums, AreExtremesIfAny, StandsAt, sums_to}
-use Rattle.path_delays.proofs.CarryLemmas.{extremes_next}
+use Rattle.path_delays.proofs.Vocabulary.{Contains, take, get_or, arith, subst, take_all, take_more, AreExtremesIfAny, StandsAt, sums_to}
+use Rattle.path_delays.proofs.CarryLemmas.{extremes_next, extremes_single}
+use Rattle.path_delays.proofs.CapturingLemmas.{single_list}
 use Rattle.path_delays.proofs.pair.captured_sums.Goals as goal
-
--- what comes where nothing was known
-either_none : (found : Option Sums) → either_sums None found ≡ found
-either_none None = refl
-either_none (Some sums) = refl
-
--- the least and the greatest at one signal
-extremes_alone : (at : ℕ → Option Sums) (signals : List ℕ) → 1 ≤ length signals
-    → length signals < 2 → AreExtremesIfAny (StandsAt at (Contains signals))
-    (at (get_or signals 0 0))
-extremes_alone at [] some few = absurd (omega (arith, some))
-extremes_alone at (signal ∷ []) some few =
-    subst (AreExtremesIfAny (StandsAt at (Contains (signal ∷ [])))) (either_none (at signal))
-    (extremes_next at [] signal None
-    (λ one (other, (place, within, here), stands). absurd (omega arith)))
-extremes_alone at (signal ∷ other ∷ more) some few = absurd (omega (arith, few))
 
 pub returns-in-len1 : goal.returns-in-len1
 returns-in-len1 c =
-    rw c.sums.ensures (extremes_alone (sums_to c.args.walk.now c.args.lane) c.args.signals.now
-    c.in-len1.len_at_least c.in-len1.len_below)
+    rw (c.sums.ensures, single_list c.args.signals.now c.in-len1.len_at_least c.in-len1.len_below)
+    (extremes_single (sums_to c.args.walk.now c.args.lane) (get_or c.args.signals.now 0 0))
 
 pub loop-signal-init : goal.loop-signal-init
 loop-signal-init c = λ one (signal, (place, within, here), stands). absurd (omega arith)

@@ -1,44 +1,93 @@
--- The pair of one register of the list more.
-use Rattle.path_delays.proofs.Vocabulary.{◌+◌, get_or, arith, err_from_is_err_and}
-use Rattle.path_delays.proofs.ReachedPairs.{captured_is_fan_in}
+-- The pair of one register of the list more, if the walk reached it in the lane.
+use Rattle.path_delays.proofs.Vocabulary.{◌≡◌, ◌+◌, ◌<◌, [], ℕ, List, None, length, get_or, arith, length-map, get_or-map, subst, sym, append-nil, err_from_is_err_and, IsJoinedBy}
+use Rattle.path_delays.specs.declared.capturing.Capture.{Capture}
+use Rattle.path_delays.specs.Capturings.{registers_of}
+use Rattle.path_delays.proofs.CapturingLemmas.{missed_path}
 use Rattle.path_delays.proofs.PendingPairs.{passed_all, passed_here, passed_next}
 use Rattle.path_delays.proofs.PairCounts.{shows_too_many}
 use Rattle.path_delays.proofs.PairWalk.{pair_next}
 use Rattle.path_delays.proofs.pairs.push_pairs_from.Goals as goal
 
+abbrev no_capture : Capture
+no_capture = record { register = 0; single = None; lanes = [] }
+
+-- there are as many registers as captures
+as_many : (captures : List Capture) → length (registers_of captures) ≡ length captures
+as_many captures = length-map captures (λ capture. capture.register)
+
+-- the register of a capture
+register_at : (captures : List Capture) (place : ℕ) → place < length captures
+    → get_or (registers_of captures) place 0 ≡ (get_or captures place no_capture).register
+register_at captures place within =
+    get_or-map (λ (capture : Capture). capture.register) captures place no_capture 0 within
+
+pub joined_to-requires-clause-to : goal.joined_to-requires-clause-to
+joined_to-requires-clause-to c =
+    let captures = c.args.captures.now in
+    let i = c.loop-capture.capture-index in
+    subst (λ n. n < length c.args.circuit.now.registers)
+    (register_at captures i c.loop-capture-test.true)
+    (c.requires.registers.within i 0 (omega (arith, as_many captures)))
+
 pub returns-in_err-push_joined-clause-many : goal.returns-in_err-push_joined-clause-many
 returns-in_err-push_joined-clause-many c =
     let fault = err_from_is_err_and c.from_residual.result c.from_residual.ensures.1 in
     let circuit = c.args.circuit.now in
-    let to = get_or c.args.registers.now c.loop-to.to-index 0 in
+    let captures = c.args.captures.now in
+    let i = c.loop-capture.capture-index in
     rw (fault.1, fault.2) (λ tech reach listed.
-    let joined = c.joined_pair.ensures circuit tech
-    (rw c.as_slice-captured.ensures (captured_is_fan_in circuit to c.register_signal.result.now
-    c.register_signal.ensures)) (λ signal listed. reach.each signal) in
-    shows_too_many circuit tech c.args.from to _ _ _
-    (passed_here c.requires.registers c.loop-to.invariant.1 tech c.loop-to.pairs.items
-    (c.loop-to.invariant.2 tech reach listed) c.loop-to-test.true) joined
+    shows_too_many circuit tech c.args.from (get_or (registers_of captures) i 0) _ _ _
+    (passed_here c.requires.registers c.loop-capture.invariant.1 tech c.loop-capture.pairs.items
+    (c.loop-capture.invariant.2 tech reach listed) (omega (arith, as_many captures)))
+    (subst (λ n. IsJoinedBy circuit tech c.args.from n c.joined_to.result)
+    (sym (register_at captures i c.loop-capture-test.true)) (c.joined_to.ensures tech reach))
     c.in_err-push_joined.ensures.many)
 
-pub loop-to-preserved : goal.loop-to-preserved
-loop-to-preserved c =
+pub loop-capture-preserved-then-not-capture-lane : goal.loop-capture-preserved-then-not-capture-lane
+loop-capture-preserved-then-not-capture-lane c =
     let circuit = c.args.circuit.now in
-    let to = get_or c.args.registers.now c.loop-to.to-index 0 in (
+    let captures = c.args.captures.now in
+    let i = c.loop-capture.capture-index in
+    let inside : i < length (registers_of captures) = omega (arith, as_many captures) in
+    let to = get_or (registers_of captures) i 0 in
+    let pairs = c.loop-capture.pairs.items in (
       to + 1,
-      passed_next c.requires.registers c.loop-to.invariant.1 c.loop-to-test.true,
+      passed_next c.requires.registers c.loop-capture.invariant.1 inside,
       λ tech reach listed.
-          let joined = c.joined_pair.ensures circuit tech
-          (rw c.as_slice-captured.ensures (captured_is_fan_in circuit to
-          c.register_signal.result.now c.register_signal.ensures))
-          (λ signal listed. reach.each signal) in
-          pair_next circuit tech c.args.from to c.loop-to.pairs.items c.push_joined.new.pairs.items
-          c.joined_pair.result joined c.in_ok-push_joined.ensures.ok
-          (passed_here c.requires.registers c.loop-to.invariant.1 tech c.loop-to.pairs.items
-          (c.loop-to.invariant.2 tech reach listed) c.loop-to-test.true),
+          pair_next circuit tech c.args.from to pairs pairs None
+          (subst (λ n. IsJoinedBy circuit tech c.args.from n None)
+          (sym (register_at captures i c.loop-capture-test.true))
+          (missed_path circuit tech c.args.from c.args.lane c.args.walk.now
+          (get_or captures i no_capture) reach (c.requires.captures i no_capture
+          c.loop-capture-test.true) c.requires.lane c.if-not-capture-lane.true))
+          (sym (append-nil pairs))
+          (passed_here c.requires.registers c.loop-capture.invariant.1 tech pairs
+          (c.loop-capture.invariant.2 tech reach listed) inside),
+      c.loop-capture.invariant.3,
+    )
+
+pub loop-capture-preserved : goal.loop-capture-preserved
+loop-capture-preserved c =
+    let circuit = c.args.circuit.now in
+    let captures = c.args.captures.now in
+    let i = c.loop-capture.capture-index in
+    let inside : i < length (registers_of captures) = omega (arith, as_many captures) in
+    let to = get_or (registers_of captures) i 0 in (
+      to + 1,
+      passed_next c.requires.registers c.loop-capture.invariant.1 inside,
+      λ tech reach listed.
+          pair_next circuit tech c.args.from to c.loop-capture.pairs.items
+          c.push_joined.new.pairs.items c.joined_to.result
+          (subst (λ n. IsJoinedBy circuit tech c.args.from n c.joined_to.result)
+          (sym (register_at captures i c.loop-capture-test.true)) (c.joined_to.ensures tech reach))
+          c.in_ok-push_joined.ensures.ok
+          (passed_here c.requires.registers c.loop-capture.invariant.1 tech
+          c.loop-capture.pairs.items (c.loop-capture.invariant.2 tech reach listed) inside),
       c.in_ok-push_joined.ensures.few,
     )
 
 pub returns-clause-listed : goal.returns-clause-listed
 returns-clause-listed c tech reach listed =
-    passed_all c.requires.registers c.loop-to.invariant.1 tech c.loop-to.pairs.items
-    (c.loop-to.invariant.2 tech reach listed) (omega (arith, c.loop-to-test.false))
+    passed_all c.requires.registers c.loop-capture.invariant.1 tech c.loop-capture.pairs.items
+    (c.loop-capture.invariant.2 tech reach listed)
+    (omega (arith, c.loop-capture-test.false, as_many c.args.captures.now))

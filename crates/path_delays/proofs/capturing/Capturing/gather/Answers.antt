@@ -11,6 +11,7 @@ insert_all-requires c =
       reached = c.reached_among.new.reached;
       found = c.clear.new.self;
       registers = c.args.self.now.registers;
+      captures = c.args.self.now.captures;
     } in
     let room = HasCaptureRoom-same c.args.self.now begun
     (record {
@@ -30,6 +31,7 @@ loop-signal-preserved c =
       reached = c.reached_among.new.reached;
       found = c.clear.new.self;
       registers = c.args.self.now.registers;
+      captures = c.args.self.now.captures;
     } in
     let later : Capturing = record {
       capturers = c.loop-signal.self.capturers;
@@ -37,6 +39,7 @@ loop-signal-preserved c =
       reached = c.take_lowest.new.self;
       found = c.insert_all.new.self;
       registers = c.loop-signal.self.registers;
+      captures = c.loop-signal.self.captures;
     } in
     gathering_next c.args.walk.now begun c.loop-signal.self later c.loop-signal.next
     c.in-Some.signal
@@ -55,6 +58,7 @@ returns c =
       reached = c.reached_among.new.reached;
       found = c.clear.new.self;
       registers = c.args.self.now.registers;
+      captures = c.args.self.now.captures;
     } in
     let last : Capturing = record {
       capturers = c.loop-signal.self.capturers;
@@ -62,6 +66,7 @@ returns c =
       reached = c.take_lowest.new.self;
       found = c.take_all.new.self;
       registers = c.take_all.new.numbers;
+      captures = c.loop-signal.self.captures;
     } in
     gathered_all c.args.walk.now begun c.args.self.now c.loop-signal.self last c.loop-signal.next
     (record {
