@@ -9,7 +9,7 @@ pub use Rattle.std.proofs.lemmas.List.Elements.{All-nil, All-map, All-append, Al
 pub use Rattle.std.proofs.lemmas.List.Quantifiers.{all_pairs_push, Any-push}
 pub use Rattle.std.proofs.lemmas.List.Sums.{sum_by_more, sum_by-take-le, sum_by-cons, sum_by-set, sum_by-le-sum_by, sum-map, get_or-le-sum_by}
 pub use Rattle.std.proofs.lemmas.Option.{same_Some, slice_get-get_or, slice_get_within, get_or_from_slice_get, slice_get-map, slice_get_past, slice_get_read}
-pub use Rattle.std.proofs.lemmas.Result.{IfOk-weaker, err_from_is_err_and}
+pub use Rattle.std.proofs.lemmas.Result.{IfErr-weaker, IfOk-weaker, err_from_is_err_and, on_ok_weaker}
 pub use Rattle.std.specs.Int.{int_min, int_max, bit_at, bit_not, trailing_zeros, w64, w128}
 pub use Rattle.std.specs.Int.Signed.{lt_z}
 pub use Rattle.std.specs.List.{slice_get, slice_range, sum_by, slice_index_or}

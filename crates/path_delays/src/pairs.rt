@@ -4,7 +4,7 @@ ghost use Rattle.cts_model.specs.declared.tech.Tech.{Tech};
 ghost use Rattle.cts_model.specs.timing.PairLists.{JoinsMoreThan};
 ghost use Rattle.path_delays.specs.WalkParts.{HasReach, IsRoomFor};
 ghost use Rattle.path_delays.specs.Capturings.{AreAllReached, IsCapture, IsCapturingOf, registers_of};
-ghost use Rattle.path_delays.specs.JoinedPairs.{ListsPairsBefore, ArePairs, IsJoinedBy, ShowsTooMany, MeetsLimit, pair_limit};
+ghost use Rattle.path_delays.specs.JoinedPairs.{ListsPairsBefore, ArePairs, ShowsTooMany, MeetsLimit, pair_limit};
 
 use crate::PairFault;
 use crate::capturing::{Capture, Capturing, list_captures};
@@ -117,34 +117,46 @@ fn push_pairs_from(
         → ShowsTooMany circuit.now fault) }
 {
     for capture in captures {
-        if !capture.lanes[lane] {
-            continue;
-        }
-        push_joined(pairs, joined_to(walk, circuit, lane, from, capture))?;
+        push_found(pairs, walk, circuit, lane, from, capture)?;
     }
     Ok(())
 }
 
-// The delays from the register in a lane to another one, of which a walk found this.
-fn joined_to(
+// Appends the pair of the register in a lane and another one, of which a walk found this, if there
+// is one.
+fn push_found(
+    pairs: &mut Vec<PairDelay>,
     walk: &Walk,
     circuit: &Circuit,
     lane: usize,
     from: u32,
     capture: &Capture,
-) -> Option<PairDelay>
+) -> Result<(), PairFault>
     requires lane { lane < 16 }
     requires to { capture.now.register < length circuit.now.registers }
     requires capture { IsCapture circuit.now walk.now capture.now }
-    ensures { (tech : Tech) → HasReach circuit.now tech from lane walk.now
-        → IsJoinedBy circuit.now tech from capture.now.register result }
+    requires few { vec_len pairs.old ≤ pair_limit }
+    ensures few { OnOk result (vec_len pairs.new ≤ pair_limit) }
+    ensures listed { OnOk result ((tech : Tech) → HasReach circuit.now tech from lane walk.now
+        → ListsPairsBefore circuit.now tech from capture.now.register pairs.old.items
+        → ListsPairsBefore circuit.now tech from (capture.now.register + 1) pairs.new.items) }
+    ensures many { IfErr result (λ fault. (tech : Tech)
+        → HasReach circuit.now tech from lane walk.now
+        → ListsPairsBefore circuit.now tech from capture.now.register pairs.old.items
+        → ShowsTooMany circuit.now fault) }
 {
+    if !capture.lanes[lane] {
+        return Ok(());
+    }
     let to = capture.register;
     match capture.single {
-        Some(signal) => joined_pair(from, to, walk.held_sums(lane, signal)),
+        Some(signal) => push_joined(pairs, joined_pair(from, to, walk.held_sums(lane, signal))),
         None => {
             let captured = circuit.register_signal(to as usize).fan_in.as_slice();
-            joined_pair(from, to, captured_sums(walk, lane, captured))
+            push_joined(
+                pairs,
+                joined_pair(from, to, captured_sums(walk, lane, captured)),
+            )
         }
     }
 }

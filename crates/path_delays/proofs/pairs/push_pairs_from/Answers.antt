@@ -1,11 +1,8 @@
--- The pair of one register of the list more, if the walk reached it in the lane.
-use Rattle.path_delays.proofs.Vocabulary.{◌≡◌, ◌+◌, ◌<◌, [], ℕ, List, None, length, get_or, arith, length-map, get_or-map, subst, sym, append-nil, err_from_is_err_and, IsJoinedBy}
+-- What was found at one register of the list more.
+use Rattle.path_delays.proofs.Vocabulary.{◌≡◌, ◌+◌, ◌<◌, [], ℕ, List, None, length, get_or, arith, length-map, get_or-map, subst, err_from_is_err_and, ListsPairsBefore}
 use Rattle.path_delays.specs.declared.capturing.Capture.{Capture}
 use Rattle.path_delays.specs.Capturings.{registers_of}
-use Rattle.path_delays.proofs.CapturingLemmas.{missed_path}
 use Rattle.path_delays.proofs.PendingPairs.{passed_all, passed_here, passed_next}
-use Rattle.path_delays.proofs.PairCounts.{shows_too_many}
-use Rattle.path_delays.proofs.PairWalk.{pair_next}
 use Rattle.path_delays.proofs.pairs.push_pairs_from.Goals as goal
 
 abbrev no_capture : Capture
@@ -21,69 +18,39 @@ register_at : (captures : List Capture) (place : ℕ) → place < length capture
 register_at captures place within =
     get_or-map (λ (capture : Capture). capture.register) captures place no_capture 0 within
 
-pub joined_to-requires-clause-to : goal.joined_to-requires-clause-to
-joined_to-requires-clause-to c =
+pub push_found-requires-clause-to : goal.push_found-requires-clause-to
+push_found-requires-clause-to c =
     let captures = c.args.captures.now in
     let i = c.loop-capture.capture-index in
-    subst (λ n. n < length c.args.circuit.now.registers)
-    (register_at captures i c.loop-capture-test.true)
+    rw (← register_at captures i c.loop-capture-test.true)
     (c.requires.registers.within i 0 (omega (arith, as_many captures)))
 
-pub returns-in_err-push_joined-clause-many : goal.returns-in_err-push_joined-clause-many
-returns-in_err-push_joined-clause-many c =
+pub returns-in_err-push_found-clause-many : goal.returns-in_err-push_found-clause-many
+returns-in_err-push_found-clause-many c =
     let fault = err_from_is_err_and c.from_residual.result c.from_residual.ensures.1 in
-    let circuit = c.args.circuit.now in
     let captures = c.args.captures.now in
     let i = c.loop-capture.capture-index in
     rw (fault.1, fault.2) (λ tech reach listed.
-    shows_too_many circuit tech c.args.from (get_or (registers_of captures) i 0) _ _ _
+    c.in_err-push_found.ensures.many tech reach (subst
+    (λ n. ListsPairsBefore c.args.circuit.now tech c.args.from n c.loop-capture.pairs.items)
+    (register_at captures i c.loop-capture-test.true)
     (passed_here c.requires.registers c.loop-capture.invariant.1 tech c.loop-capture.pairs.items
-    (c.loop-capture.invariant.2 tech reach listed) (omega (arith, as_many captures)))
-    (subst (λ n. IsJoinedBy circuit tech c.args.from n c.joined_to.result)
-    (sym (register_at captures i c.loop-capture-test.true)) (c.joined_to.ensures tech reach))
-    c.in_err-push_joined.ensures.many)
-
-pub loop-capture-preserved-then-not-capture-lane : goal.loop-capture-preserved-then-not-capture-lane
-loop-capture-preserved-then-not-capture-lane c =
-    let circuit = c.args.circuit.now in
-    let captures = c.args.captures.now in
-    let i = c.loop-capture.capture-index in
-    let inside : i < length (registers_of captures) = omega (arith, as_many captures) in
-    let to = get_or (registers_of captures) i 0 in
-    let pairs = c.loop-capture.pairs.items in (
-      to + 1,
-      passed_next c.requires.registers c.loop-capture.invariant.1 inside,
-      λ tech reach listed.
-          pair_next circuit tech c.args.from to pairs pairs None
-          (subst (λ n. IsJoinedBy circuit tech c.args.from n None)
-          (sym (register_at captures i c.loop-capture-test.true))
-          (missed_path circuit tech c.args.from c.args.lane c.args.walk.now
-          (get_or captures i no_capture) reach (c.requires.captures i no_capture
-          c.loop-capture-test.true) c.requires.lane c.if-not-capture-lane.true))
-          (sym (append-nil pairs))
-          (passed_here c.requires.registers c.loop-capture.invariant.1 tech pairs
-          (c.loop-capture.invariant.2 tech reach listed) inside),
-      c.loop-capture.invariant.3,
-    )
+    (c.loop-capture.invariant.2 tech reach listed) (omega (arith, as_many captures)))))
 
 pub loop-capture-preserved : goal.loop-capture-preserved
 loop-capture-preserved c =
-    let circuit = c.args.circuit.now in
     let captures = c.args.captures.now in
     let i = c.loop-capture.capture-index in
     let inside : i < length (registers_of captures) = omega (arith, as_many captures) in
-    let to = get_or (registers_of captures) i 0 in (
-      to + 1,
+    let same = register_at captures i c.loop-capture-test.true in (
+      get_or (registers_of captures) i 0 + 1,
       passed_next c.requires.registers c.loop-capture.invariant.1 inside,
       λ tech reach listed.
-          pair_next circuit tech c.args.from to c.loop-capture.pairs.items
-          c.push_joined.new.pairs.items c.joined_to.result
-          (subst (λ n. IsJoinedBy circuit tech c.args.from n c.joined_to.result)
-          (sym (register_at captures i c.loop-capture-test.true)) (c.joined_to.ensures tech reach))
-          c.in_ok-push_joined.ensures.ok
+          rw same
+          (c.in_ok-push_found.ensures.listed tech reach (rw same at
           (passed_here c.requires.registers c.loop-capture.invariant.1 tech
-          c.loop-capture.pairs.items (c.loop-capture.invariant.2 tech reach listed) inside),
-      c.in_ok-push_joined.ensures.few,
+          c.loop-capture.pairs.items (c.loop-capture.invariant.2 tech reach listed) inside))),
+      c.in_ok-push_found.ensures.few,
     )
 
 pub returns-clause-listed : goal.returns-clause-listed

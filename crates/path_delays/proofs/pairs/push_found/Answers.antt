@@ -1,0 +1,63 @@
+-- What the walk found at what the register captures are the delays between the two.
+use Rattle.path_delays.proofs.Vocabulary.{◌∷◌, [], None, sym, append-nil, IfErr-weaker, on_ok_weaker, Tech, IsJoinedBy, HasReach, sums_to}
+use Rattle.path_delays.proofs.CapturingLemmas.{missed_path}
+use Rattle.path_delays.proofs.CarryLemmas.{extremes_single}
+use Rattle.path_delays.proofs.PairCounts.{shows_too_many}
+use Rattle.path_delays.proofs.PairWalk.{pair_next}
+use Rattle.path_delays.proofs.ReachedPairs.{captured_is_fan_in}
+use Rattle.path_delays.proofs.pairs.push_found.Goals as goal
+
+pub returns-then-not-capture-lane-clause-listed : goal.returns-then-not-capture-lane-clause-listed
+returns-then-not-capture-lane-clause-listed c tech reach listed =
+    pair_next c.args.circuit.now tech c.args.from c.args.capture.now.register _ _ None
+    (missed_path c.args.circuit.now tech c.args.from c.args.lane c.args.walk.now
+    c.args.capture.now reach c.requires.capture c.requires.lane c.if-not-capture-lane.true)
+    (sym (append-nil c.args.pairs.now.items)) listed
+
+pub held_sums-requires-clause-held : goal.held_sums-requires-clause-held
+held_sums-requires-clause-held c = (c.requires.capture.single c.in-Some.signal c.in-Some.is).1
+
+pub returns-in-Some : goal.returns-in-Some
+returns-in-Some c =
+    let circuit = c.args.circuit.now in
+    let signal = c.in-Some.signal in
+    let from = c.args.from in
+    let to = c.args.capture.now.register in
+    let lane = c.args.lane in
+    let walk = c.args.walk.now in
+    let joined : (tech : Tech) → HasReach circuit tech from lane walk
+    → IsJoinedBy circuit tech from to c.joined_pair.result = λ tech reach.
+    c.joined_pair.ensures circuit tech lane walk (signal ∷ [])
+    (c.requires.capture.single signal c.in-Some.is).0 (λ other listed. reach.each other)
+    (rw c.held_sums.ensures (extremes_single (sums_to walk lane) signal)) in
+    record {
+      few = c.push_joined.ensures.few;
+      listed = on_ok_weaker c.push_joined.result
+          (λ is tech reach. pair_next circuit tech from to _ _ _ (joined tech reach) is)
+          c.push_joined.ensures.ok;
+      many = IfErr-weaker c.push_joined.result _ _ (λ fault meets tech reach lists.
+          shows_too_many circuit tech from to _ _ fault lists (joined tech reach) meets)
+          c.push_joined.ensures.many;
+    }
+
+pub returns-in-None : goal.returns-in-None
+returns-in-None c =
+    let circuit = c.args.circuit.now in
+    let from = c.args.from in
+    let to = c.args.capture.now.register in
+    let lane = c.args.lane in
+    let walk = c.args.walk.now in
+    let joined : (tech : Tech) → HasReach circuit tech from lane walk
+    → IsJoinedBy circuit tech from to c.joined_pair-in-None.result = λ tech reach.
+    c.joined_pair-in-None.ensures circuit tech lane walk _
+    (rw c.as_slice-captured.ensures (captured_is_fan_in circuit to c.register_signal.result.now
+    c.register_signal.ensures)) (λ other listed. reach.each other) c.captured_sums.ensures in
+    record {
+      few = c.push_joined-in-None.ensures.few;
+      listed = on_ok_weaker c.push_joined-in-None.result
+          (λ is tech reach. pair_next circuit tech from to _ _ _ (joined tech reach) is)
+          c.push_joined-in-None.ensures.ok;
+      many = IfErr-weaker c.push_joined-in-None.result _ _ (λ fault meets tech reach lists.
+          shows_too_many circuit tech from to _ _ fault lists (joined tech reach) meets)
+          c.push_joined-in-None.ensures.many;
+    }
