@@ -249,15 +249,16 @@ impl Search {
         }
     }
 
-    // Whether a constraint and the next one, if there is one, gain something in all.
+    // Whether a setup and a hold constraint that come one after the other may gain something in
+    // all. It is a hint, asked of other pairs too.
     fn gains_with_next(&self, constraints: &[Constraint], place: usize) -> bool
-        requires search { IsSearch constraints.now self.now }
-        requires place { place < length constraints.now }
+        requires { place < length constraints.now }
     {
         let Some(next) = constraints.get(place + 1) else {
             return false;
         };
-        self.trial.gain(&constraints[place]) + self.trial.gain(next) > 0
+        let weight = constraints[place].weight.wrapping_add(next.weight);
+        weight.wrapping_mul(self.trial.scale) > self.trial.setup.wrapping_add(self.trial.hold)
     }
 
     // Puts the cycle last in the list where its ratio is greater than what is shown.

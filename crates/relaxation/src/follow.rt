@@ -186,7 +186,7 @@ impl Relaxation {
             let Some(register) = turns.next() else {
                 return;
             };
-            self.hand_on(constraints, gains, register, turns);
+            self.hand_on(constraints, gains, register as usize, turns);
         }
     }
 
@@ -195,20 +195,19 @@ impl Relaxation {
         &mut self,
         constraints: &[Constraint],
         gains: Gains,
-        register: u32,
+        register: usize,
         turns: &mut Turns,
     )
         requires { HasRoom constraints.now self.old }
         ensures { HasRisen constraints.now gains self.old self.new }
     {
-        let mut mark = turns.last_from(register);
+        let mut next = turns.last_from(register);
         for _step in 0..constraints.len() {
-            if mark == 0 {
+            let Some(place) = next else {
                 return;
-            }
-            let place = mark as usize - 1;
+            };
             self.relax_in_turn(constraints, gains, place, turns);
-            mark = turns.before(place);
+            next = turns.before(place);
         }
     }
 

@@ -26,10 +26,8 @@ impl Relaxation {
         ensures parents { length self.new.parents.items ≡ length self.old.parents.items }
     {
         self.values.fill(NO_GAIN);
-        for place in 0..constraints.len() {
-            if turns.links(&constraints[place]) {
-                self.prefer(constraints, gains, place);
-            }
+        for register in 0..self.parents.len() {
+            self.prefer_from(constraints, gains, register, turns);
         }
         self.values.fill(0);
     }
@@ -95,15 +93,38 @@ impl Relaxation {
         })
     }
 
+    // Makes each linked constraint that leads from a register its head's parent if it gains more.
+    fn prefer_from(
+        &mut self,
+        constraints: &[Constraint],
+        gains: Gains,
+        register: usize,
+        turns: &Turns,
+    )
+        requires entries { HasEntries constraints.now self.old }
+        ensures values { length self.new.values.items ≡ length self.old.values.items }
+        ensures parents { length self.new.parents.items ≡ length self.old.parents.items }
+    {
+        let mut next = turns.last_from(register);
+        for _step in 0..constraints.len() {
+            let Some(place) = next else {
+                return;
+            };
+            self.prefer(constraints, gains, place);
+            next = turns.before(place);
+        }
+    }
+
     // Makes a constraint its head's parent if it gains more than the head's value, which becomes
     // that gain.
     fn prefer(&mut self, constraints: &[Constraint], gains: Gains, place: usize)
         requires entries { HasEntries constraints.now self.old }
-        requires place { place < length constraints.now }
         ensures values { length self.new.values.items ≡ length self.old.values.items }
         ensures parents { length self.new.parents.items ≡ length self.old.parents.items }
     {
-        let constraint = &constraints[place];
+        let Some(constraint) = constraints.get(place) else {
+            return;
+        };
         let gain = gains.gain(constraint);
         let head = constraint.head as usize;
         if gain > self.values[head] {

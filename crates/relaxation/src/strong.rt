@@ -44,13 +44,12 @@ impl Strong {
     }
 }
 
-/// The most that a constraint gains, by a look at some or at all.
-pub(crate) fn greatest_gain(constraints: &[Constraint], gains: Gains, all: bool) -> i128 {
-    let each = if all { 1 } else { EACH };
+/// The most that a constraint gains, by a look at some.
+pub(crate) fn greatest_gain(constraints: &[Constraint], gains: Gains) -> i128 {
     let mut setup = 0i128;
     let mut hold = 0i128;
-    for turn in 0..constraints.len() / each {
-        let Some(constraint) = constraints.get(turn.wrapping_mul(each)) else {
+    for turn in 0..constraints.len() / EACH {
+        let Some(constraint) = constraints.get(turn.wrapping_mul(EACH)) else {
             break;
         };
         if constraint.setup {

@@ -90,8 +90,8 @@ impl Turns {
         false
     }
 
-    /// Whether a constraint is linked.
-    pub(crate) fn links(&self, constraint: &Constraint) -> bool {
+    // Whether a constraint is linked.
+    fn links(&self, constraint: &Constraint) -> bool {
         match &self.strong {
             Some(strong) => strong.has(constraint),
             None => true,
@@ -194,22 +194,22 @@ impl Turns {
         Some(register)
     }
 
-    /// 1 more than the place of the last constraint that leads from a register, or 0.
-    pub(crate) fn last_from(&self, register: u32) -> u32 {
-        self.tails.last.get(register as usize).copied().unwrap_or(0)
+    /// The place of the last linked constraint that leads from a register.
+    pub(crate) fn last_from(&self, register: usize) -> Option<usize> {
+        Some(self.tails.last.get(register)?.checked_sub(1)? as usize)
     }
 
-    /// 1 more than the place of the constraint before one that leads from the same register, or 0.
-    pub(crate) fn before(&self, place: usize) -> u32 {
-        self.tails.before.get(place).copied().unwrap_or(0)
+    /// The place of the linked constraint before one that leads from the same register.
+    pub(crate) fn before(&self, place: usize) -> Option<usize> {
+        Some(self.tails.before.get(place)?.checked_sub(1)? as usize)
     }
 }
 
-// How far apart values are thought to lie at first.
+// How far apart values are thought to lie at first: by a look at some constraints, or without limit
+// where registers have few.
 fn apart_at_first(registers: usize, constraints: &[Constraint], gains: Gains) -> i128 {
-    let apart = greatest_gain(constraints, gains, false).wrapping_mul(TIMES);
-    if constraints.len() / MANY < registers || !Strong::within(gains, apart).are_few(constraints) {
+    if constraints.len() / MANY < registers {
         return i128::MAX;
     }
-    greatest_gain(constraints, gains, true).wrapping_mul(TIMES)
+    greatest_gain(constraints, gains).wrapping_mul(TIMES)
 }
