@@ -1,5 +1,5 @@
 -- The delays of given pairs of registers, pair by pair.
-use Rattle.path_delays.proofs.Vocabulary.{ℕ, ◌≡◌, ◌<◌, ◌≤◌, ◌+◌, ◌-◌, List, [], ◌∷◌, ◌++◌, length, drop, take, Option, Some, inl, inr, refl, sym, ◌∙◌, ap, subst, arith, slice_get, slice_range, cases_lt, drop-take, take-append-drop, take-take, get_or_append_left, get_or_push, length_push, same_Some, slice_get-get_or, slice_get_within, Circuit, Tech, PairDelay, IsJoinedBy, AreDelaysBetween}
+use Rattle.path_delays.proofs.Vocabulary.{ℕ, ◌≡◌, ◌<◌, ◌≤◌, ◌+◌, ◌-◌, List, [], ◌∷◌, ◌++◌, length, drop, take, Option, Some, inl, inr, sym, ◌∙◌, ap, subst, arith, slice_get, slice_range, cases_lt, drop-take, take-append-drop, take-take, get_or_append_left, get_or_push, length_push, same_Some, slice_get-get_or, slice_get_within, Circuit, Tech, PairDelay, IsJoinedBy, AreDelaysBetween}
 
 -- the items up to a place, and those from there to a later one
 pub take_on : {X : Type 0} (xs : List X) (first end : ℕ) → first ≤ end
@@ -29,11 +29,7 @@ get_last xs x place last =
 module _ (circuit : Circuit) (tech : Tech) where
   -- no delays of no pairs
   pub between_none : AreDelaysBetween circuit tech [] []
-  between_none = record {
-    all = refl;
-    each = λ place from to here.
-        absurd (omega (arith, slice_get_within {A = ℕ × ℕ} [] place (from, to) here));
-  }
+  between_none = grind (arith, slice_get_within)
 
   -- one pair more
   pub between_push : (pairs : List (ℕ × ℕ)) (pair : ℕ × ℕ) (delays : List (Option PairDelay))

@@ -1,5 +1,5 @@
 -- What registers capture: from the pairs, register by register, to the groups by signal.
-use Rattle.path_delays.proofs.Vocabulary.{ℕ, ◌≡◌, ◌<◌, ◌≤◌, ◌+◌, ◌*◌, Bool, true, false, cond, IsTrue, List, [], ◌++◌, length, map, get_or, All, Contains, Option, Some, None, IsSomeAnd, refl, sym, ◌∙◌, subst, arith, inl, inr, slice_get, option_and_then, cases_lt, true≢false, length-append, length-map, All-nil, All-map, All-append, All-contains, All-contains_itself, Contains-append_left, Contains-append_right, slice_get_within, get_or_from_slice_get, Kind, And, Nand, Or, Nor, Not, Xor, Xnor, Buff, Input, Dff, Host, Signal, Circuit, is_host, is_valid, has_host, register_signal, Captures, Groups, group_of, HasGroups, has_number, AreInserted, AreCapturedBy, AreAllCaptures, AreCapturersOf, AreCapturedBelow}
+use Rattle.path_delays.proofs.Vocabulary.{ℕ, ◌≡◌, ◌<◌, ◌≤◌, ◌+◌, ◌*◌, Bool, true, false, cond, IsTrue, List, [], ◌++◌, length, map, get_or, All, Contains, Option, Some, None, refl, subst, arith, inl, inr, slice_get, option_and_then, cases_lt, length-append, length-map, All-nil, All-map, All-append, All-contains, All-contains_itself, Contains-append_left, Contains-append_right, slice_get_within, get_or_from_slice_get, Kind, And, Nand, Or, Nor, Not, Xor, Xnor, Buff, Input, Dff, Host, Signal, Circuit, is_host, is_valid, has_host, register_signal, Captures, Groups, group_of, HasGroups, has_number, AreInserted, AreCapturedBy, AreAllCaptures, AreCapturersOf, AreCapturedBelow}
 use Rattle.std.proofs.lemmas.Bool.Decides.{nat_tests}
 use Rattle.path_delays.proofs.ReachedPairs.{captured_within}
 use Rattle.path_delays.proofs.NetworkLemmas.{Contains-map, Contains-values_at, All-values_at, distinct_length-le}
@@ -34,12 +34,7 @@ module _ (circuit : Circuit) where
 
   -- so there are few outputs
   few_outputs : length circuit.outputs ≤ 65537
-  few_outputs = omega (
-    arith,
-    distinct_length-le (length circuit.signals) circuit.outputs circuit.valid.outputs_once
-        circuit.valid.outputs_are,
-    few_signals,
-  )
+  few_outputs = grind (arith, distinct_length-le, few_signals)
 
   -- a register captures few signals
   pub few_captured : (register : ℕ) (signal : Signal)
@@ -64,12 +59,7 @@ module _ (circuit : Circuit) where
 
   -- no registers capture nothing
   pub no_captures : AreAllCaptures circuit 0 []
-  no_captures = record {
-    signals = All-nil (λ (pair : ℕ × ℕ). pair.0 < length circuit.signals);
-    each = All-nil (λ (pair : ℕ × ℕ). Captures circuit pair.1 pair.0);
-    all = λ register signal lower captures. absurd (omega arith);
-    few = omega arith;
-  }
+  no_captures = grind (arith, All-nil)
 
   -- one register more
   pub captures_more : (register : ℕ) (pairs : List (ℕ × ℕ)) (captured : List ℕ)
@@ -105,23 +95,7 @@ module _ (circuit : Circuit) where
   -- what captures a signal is a register, and what it captures a signal
   pub capture_within : (register signal : ℕ) → Captures circuit register signal
       → (register < length circuit.registers) × (signal < length circuit.signals)
-  capture_within register signal captures = at (register_signal circuit register) refl captures
-    where
-      listed : (o : Option ℕ) → slice_get circuit.registers register ≡ o → (found : Signal)
-          → option_and_then (slice_get circuit.signals) o ≡ Some found
-          → register < length circuit.registers
-      listed None here found is = cc is
-      listed (Some number) here found is = slice_get_within circuit.registers register number here
-
-      at : (o : Option Signal) → register_signal circuit register ≡ o
-          → IsSomeAnd o (λ found. Contains found.fan_in signal)
-          → (register < length circuit.registers) × (signal < length circuit.signals)
-      at None here none = absurd none
-      at (Some found) here captured = (
-        listed (slice_get circuit.registers register) refl found here,
-        All-contains (λ number. number < length circuit.signals) found.fan_in signal
-            (captured_within circuit register found here) captured,
-      )
+  capture_within register signal captures = grind (arith, slice_get_within, All-contains, captured_within)
 
   -- grouped by signal they are the registers that capture each
   pub captures_grouped : (pairs : List (ℕ × ℕ)) (groups : Groups)
@@ -145,12 +119,7 @@ module _ (circuit : Circuit) where
   pub none_captured : (words : List ℕ) → length circuit.signals < 64 * length words
       → 64 * length words ≤ length circuit.signals + 64
       → ((number : ℕ) → has_number words number ≡ false) → AreCapturedBelow circuit 0 words
-  none_captured words room small empty = record {
-    room = room;
-    small = small;
-    each = λ signal held. absurd (true≢false (sym held ∙ empty signal));
-    all = λ register signal lower captures. absurd (omega arith);
-  }
+  none_captured words room small empty = grind (arith)
 
   -- what one register more captures is put in
   pub captured_more : (register : ℕ) (captured words later : List ℕ)

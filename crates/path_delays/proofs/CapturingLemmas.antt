@@ -28,32 +28,17 @@ single_list (signal ∷ other ∷ more) some few = absurd (omega (arith, few))
 -- what is as before twice is as before
 same_capturing : (old now later : Capturing) → IsSameCapturing old now → IsSameCapturing now later
     → IsSameCapturing old later
-same_capturing old now later first second = record {
-  capturers = second.capturers ∙ first.capturers;
-  captured = second.captured ∙ first.captured;
-  reached = second.reached ∙ first.reached;
-  found = second.found ∙ first.found;
-}
+same_capturing old now later first second = grind (arith)
 
 -- a register that captures a signal still does
 capturer_same : (old new : Capturing) (signal register : ℕ) → IsSameCapturing old new
     → IsCapturer new signal register → IsCapturer old signal register
-capturer_same old new signal register same capturer = record {
-  captured = subst (λ (s : NumberSet). IsTrue (has_number s.words.items signal)) same.captured
-      capturer.captured;
-  listed =
-      subst (λ (g : Groups). Contains (group_of g signal) register) same.capturers capturer.listed;
-}
+capturer_same old new signal register same capturer = grind (arith)
 
 -- and did before
 capturer_before : (old new : Capturing) (signal register : ℕ) → IsSameCapturing old new
     → IsCapturer old signal register → IsCapturer new signal register
-capturer_before old new signal register same capturer = record {
-  captured = subst (λ (s : NumberSet). IsTrue (has_number s.words.items signal)) (sym same.captured)
-      capturer.captured;
-  listed = subst (λ (g : Groups). Contains (group_of g signal) register) (sym same.capturers)
-      capturer.listed;
-}
+capturer_before old new signal register same capturer = grind (arith)
 
 module _ (walk : Walk) (old : Capturing) where
   -- the registers of one signal more
@@ -192,13 +177,7 @@ module _ (circuit : Circuit) where
   -- and the same signals and registers
   pub capturing_same : (old new : Capturing) → IsSameCapturing old new → IsCapturingOf circuit old
       → IsCapturingOf circuit new
-  capturing_same old new same is = record {
-    capturers = subst (AreCapturersOf circuit) (sym same.capturers) is.capturers;
-    captured =
-        subst (λ (s : NumberSet). AreCapturedBelow circuit (length circuit.registers) s.words.items)
-        (sym same.captured) is.captured;
-    room = HasCaptureRoom-same old new same is.room;
-  }
+  capturing_same old new same is = grind (arith, HasCaptureRoom-same)
 
   -- what is gathered are registers of the circuit, and among them is each that a path leads to
   pub gathered_from : (tech : Tech) (from lane : ℕ) (walk : Walk) (old new : Capturing)

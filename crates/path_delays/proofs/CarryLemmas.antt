@@ -7,10 +7,7 @@ use Rattle.path_delays.proofs.SumLemmas.{around_itself, around_joined, around_kn
 around_around : (known : Option Sums) (between inner : Sums) → AreAround known between
     → IsAround between inner → AreAround known inner
 around_around None between inner none around = none
-around_around (Some sums) between inner outer around = record {
-  least = omega (arith, ints, outer.least, around.least);
-  greatest = omega (arith, ints, outer.greatest, around.greatest);
-}
+around_around (Some sums) between inner outer around = grind (arith, ints)
 
 -- what is around something is there
 there : (known : Option Sums) (inner : Sums) → AreAround known inner
@@ -21,10 +18,7 @@ there (Some sums) inner around = (sums, refl, around)
 -- around others stays what is around them after the same delay
 around_through : (sums inner delay : Sums) → IsAround sums inner
     → IsAround (sums_through sums delay) (sums_through inner delay)
-around_through sums inner delay around = record {
-  least = omega (arith, ints, around.least);
-  greatest = omega (arith, ints, around.greatest);
-}
+around_through sums inner delay around = grind (arith, ints)
 
 -- what two become is around what the first was around
 either_known : (known found : Option Sums) (inner : Sums) → AreAround known inner
@@ -43,16 +37,7 @@ either_found known (Some sums) inner around =
 -- what two become is shown where each of the two is
 shown_merged : (Come : Sums → Type 0) (known found : Sums) → AreShownBy Come known
     → AreShownBy Come found → AreShownBy Come (merged_sums known found)
-shown_merged Come known found was now = record {
-  least = elim (min_cases known.least found.least).0 [
-    | inl first ↦ (was.least.0, was.least.1, was.least.2 ∙ sym first)
-    | inr second ↦ (now.least.0, now.least.1, now.least.2 ∙ sym second)
-  ];
-  greatest = elim (max_cases known.greatest found.greatest).0 [
-    | inl first ↦ (was.greatest.0, was.greatest.1, was.greatest.2 ∙ sym first)
-    | inr second ↦ (now.greatest.0, now.greatest.1, now.greatest.2 ∙ sym second)
-  ];
-}
+shown_merged Come known found was now = grind (arith, min_cases, max_cases)
 
 shown_either : (Come : Sums → Type 0) (known found : Option Sums)
     → ((sums : Sums) → known ≡ Some sums → AreShownBy Come sums)
@@ -68,10 +53,7 @@ shown_either Come (Some known) (Some found) was now sums here =
 -- what is shown by some is shown by more
 shown_more : (Come More : Sums → Type 0) → ((one : Sums) → Come one → More one) → (sums : Sums)
     → AreShownBy Come sums → AreShownBy More sums
-shown_more Come More more sums shown = record {
-  least = (shown.least.0, more shown.least.0 shown.least.1, shown.least.2);
-  greatest = (shown.greatest.0, more shown.greatest.0 shown.greatest.1, shown.greatest.2);
-}
+shown_more Come More more sums shown = grind (arith)
 
 -- extremes are shown, and around all that comes; where nothing stands nothing comes
 extremes_made : (Come : Sums → Type 0) (known : Option Sums)
@@ -120,27 +102,12 @@ module _ (signals : List Signal) (delay : ℕ → Sums) where
   comes_through : (Starts : ℕ → Sums → Type 0) (read gate : ℕ) (sums : Sums)
       → Reads signals gate read → Comes signals delay Starts read sums
       → Comes signals delay Starts gate (sums_through sums (delay gate))
-  comes_through Starts read gate sums reads comes = record {
-    first = comes.first;
-    start = comes.start;
-    starts = comes.starts;
-    gates = comes.gates ++ gate ∷ [];
-    follows = Follows-push signals comes.first comes.gates read gate comes.follows reads;
-    ends = along-push comes.start comes.gates gate
-        ∙ ap (λ (s : Sums). sums_through s (delay gate)) comes.ends;
-  }
+  comes_through Starts read gate sums reads comes = grind (arith, Follows-push, along-push)
 
   -- what starts comes
   comes_start : (Starts : ℕ → Sums → Type 0) (signal : ℕ) (start : Sums) → Starts signal start
       → Comes signals delay Starts signal start
-  comes_start Starts signal start starts = record {
-    first = signal;
-    start = start;
-    starts = starts;
-    gates = [];
-    follows = refl;
-    ends = refl;
-  }
+  comes_start Starts signal start starts = grind (arith)
 
   -- what starts is shown
   pub shown_start : (Starts : ℕ → Sums → Type 0) (signal : ℕ) (start : Sums) → Starts signal start
@@ -183,11 +150,7 @@ module _ (signals : List Signal) (delay : ℕ → Sums) where
   pub carried_none : (Starts Begun : ℕ → Sums → Type 0) (Handed : ℕ → ℕ → Type 0)
       (at : ℕ → Option Sums) → ((signal : ℕ) (start : Sums) → Begun signal start → ⊥)
       → ((signal : ℕ) → at signal ≡ None) → AreCarried signals delay Starts Begun Handed at
-  carried_none Starts Begun Handed at never none = record {
-    shown = λ signal sums here. let empty = none signal in absurd cc;
-    started = λ signal start starts begun. absurd (never signal start begun);
-    handed = λ read gate given reads sums here. let empty = none read in absurd cc;
-  }
+  carried_none Starts Begun Handed at never none = grind (arith)
 
   -- the same sums are carried where no more has begun, and no more is handed on
   pub carried_same : (Starts Begun Later : ℕ → Sums → Type 0) (Handed Now : ℕ → ℕ → Type 0)
@@ -219,13 +182,7 @@ module _ (signals : List Signal) (delay : ℕ → Sums) where
       (joined : IsJoinedAt signal found old new) where
     -- what was around something still is
     kept : (one : ℕ) (inner : Sums) → AreAround (old one) inner → AreAround (new one) inner
-    kept one inner around = elim (cases_eq one signal) [
-      | inl same ↦ subst (λ n. AreAround (new n) inner) (sym same)
-          (subst (λ o. AreAround o inner) (sym joined.here)
-          (either_known (old signal) found inner
-          (subst (λ n. AreAround (old n) inner) same around)))
-      | inr apart ↦ subst (λ o. AreAround o inner) (sym (joined.others one apart)) around
-    ]
+    kept one inner around = grind (arith, cases_eq, either_known)
 
     -- and so is what is found
     found_counts : (inner : Sums) → AreAround found inner → AreAround (new signal) inner

@@ -1,5 +1,5 @@
 -- Paths of constraints, one put after the other while there is room.
-use Rattle.path_delays.proofs.Vocabulary.{◌≡◌, ◌<◌, ◌≤◌, ◌+◌, ◌-◌, ℕ, List, [], ◌∷◌, ◌++◌, length, get_or, Bool, true, false, Option, Some, None, refl, ap, subst, sym, ◌∙◌, arith, ◌+ℤ◌, ◌-ℤ◌, nat_le, if◌then◌else◌, slice_range, leb-true, leb-false, ints, drop_all, drop_more, drop-drop, take-append-drop, Circuit, Constraint, Tech, least_delay, greatest_delay, IsPath, path_within, FitsRoom, IsPathWithin, KeepsPaths, pair_of, path_signals, IsExtremeIfAny}
+use Rattle.path_delays.proofs.Vocabulary.{◌≡◌, ◌<◌, ◌≤◌, ◌+◌, ◌-◌, ℕ, List, [], ◌∷◌, ◌++◌, length, get_or, Bool, true, false, Option, Some, None, refl, ap, subst, sym, ◌∙◌, arith, ◌+ℤ◌, ◌-ℤ◌, if◌then◌else◌, slice_range, leb-true, leb-false, ints, drop_all, drop_more, drop-drop, take-append-drop, Circuit, Constraint, Tech, least_delay, greatest_delay, IsPath, path_within, FitsRoom, IsPathWithin, KeepsPaths, pair_of, path_signals, IsExtremeIfAny}
 use Rattle.std.specs.Prelude.{MatchBool, drop}
 use Rattle.std.proofs.lemmas.List.{append-nil, append_assoc}
 use Rattle.std.proofs.Math.Seq.{append_snoc}
@@ -17,21 +17,7 @@ AreEarlierPaths circuit tech cycle place room paths = (rest : List (List ℕ))
 pub pair_within : (circuit : Circuit) (tech : Tech) (constraint : Constraint)
     → IsConstraintOf circuit tech constraint → ((pair_of constraint).0 < length circuit.registers)
     × ((pair_of constraint).1 < length circuit.registers)
-pair_within circuit tech constraint is_one = at constraint.setup is_one
-  where
-    Registers : Bool → Type 0
-    Registers setup = let pair : ℕ × ℕ = if setup then (constraint.tail, constraint.head)
-        else (constraint.head, constraint.tail) in
-        (pair.0 < length circuit.registers) × (pair.1 < length circuit.registers)
-
-    at : (setup : Bool) → MatchBool setup
-        (IsSetupConstraint circuit tech constraint.tail constraint.head constraint.weight)
-        (IsHoldConstraint circuit tech constraint.head constraint.tail constraint.weight)
-        → Registers setup
-    at true is_setup =
-        path_within circuit constraint.tail constraint.head is_setup.path is_setup.joins
-    at false is_hold =
-        path_within circuit constraint.head constraint.tail is_hold.path is_hold.joins
+pair_within circuit tech constraint is_one = grind (arith, path_within)
 
 -- a path has a signal
 some_signal : (circuit : Circuit) (from to : ℕ) (path : List ℕ) → IsPath circuit from to path
@@ -43,36 +29,7 @@ some_signal circuit from to (first ∷ gates) is_path none = omega (arith, none)
 pub without_room : (circuit : Circuit) (tech : Tech) (constraint : Constraint) (room : ℕ)
     (path : List ℕ) → IsConstraintOf circuit tech constraint → room ≡ 0 → path ≡ []
     → IsPathWithin circuit tech constraint room path
-without_room circuit tech constraint room path is_one full none =
-    let found = at constraint.setup is_one in
-    record { whole = found.0; gives = found.1; kept = found.2 }
-  where
-    kept : (from to : ℕ) (whole : List ℕ) → IsPath circuit from to whole → FitsRoom whole room path
-    kept from to whole joins = record {
-      whole_kept = λ fits. absurd (some_signal circuit from to whole joins
-          (subst (λ n. length whole ≤ n) full fits));
-      none = λ _. none;
-    }
-
-    at : (setup : Bool) → MatchBool setup
-        (IsSetupConstraint circuit tech constraint.tail constraint.head constraint.weight)
-        (IsHoldConstraint circuit tech constraint.head constraint.tail constraint.weight)
-        → (whole : List ℕ) × MatchBool setup
-        (IsPath circuit constraint.tail constraint.head whole
-        × (greatest_delay circuit tech whole +ℤ tech.setup ≡ constraint.weight))
-        (IsPath circuit constraint.head constraint.tail whole
-        × (tech.hold -ℤ least_delay circuit tech whole ≡ constraint.weight))
-        × FitsRoom whole room path
-    at true is_one = (
-      is_one.path,
-      (is_one.joins, is_one.weight_is),
-      kept constraint.tail constraint.head is_one.path is_one.joins,
-    )
-    at false is_one = (
-      is_one.path,
-      (is_one.joins, is_one.weight_is),
-      kept constraint.head constraint.tail is_one.path is_one.joins,
-    )
+without_room circuit tech constraint room path is_one full none = grind (arith, some_signal)
 
 -- what is kept of a path takes what it has of the room
 kept_first : (circuit : Circuit) (tech : Tech) (room : ℕ) (constraint : Constraint)
@@ -80,19 +37,7 @@ kept_first : (circuit : Circuit) (tech : Tech) (room : ℕ) (constraint : Constr
     → GivesWeight circuit tech constraint whole → FitsRoom whole room path
     → ArePathsWithin circuit tech (room - length path) more rest
     → ArePathsWithin circuit tech room (constraint ∷ more) (path ∷ rest)
-kept_first circuit tech room constraint more whole path rest gives kept within =
-    (whole, gives, at (nat_le (length whole) room) refl)
-  where
-    at : (fits : Bool) → nat_le (length whole) room ≡ fits → MatchBool fits
-        ((path ≡ whole) × ArePathsWithin circuit tech (room - length whole) more rest)
-        ((path ≡ []) × ArePathsWithin circuit tech room more rest)
-    at true fits =
-        let same = kept.whole_kept (leb-true (length whole) room fits) in
-        (same, subst (λ p. ArePathsWithin circuit tech (room - length p) more rest) same within)
-    at false fits =
-        let none = kept.none (leb-false (length whole) room fits) in
-        let left : room - length path ≡ room = omega (arith, ap (λ p. length p) none) in
-        (none, subst (λ r. ArePathsWithin circuit tech r more rest) left within)
+kept_first circuit tech room constraint more whole path rest gives kept within = grind (arith, leb-true, leb-false)
 
 -- the extreme path of its pair gives a constraint its weight
 pub path_kept : (circuit : Circuit) (tech : Tech) (constraint : Constraint) (room : ℕ)
@@ -143,11 +88,7 @@ module _ (circuit : Circuit) (tech : Tech) (constraints : List Constraint) (room
     (old : List (List ℕ)) where
   -- none yet
   pub keeps_none : KeepsBefore circuit tech constraints room 0 room old old
-  keeps_none = record {
-    pushed = [];
-    is = sym (append-nil old);
-    within = λ more rest within. within;
-  }
+  keeps_none = grind (arith, append-nil)
 
   -- one more path
   pub keeps_next : (place left : ℕ) (new : List (List ℕ)) (path : List ℕ) (default : Constraint)
@@ -156,30 +97,13 @@ module _ (circuit : Circuit) (tech : Tech) (constraints : List Constraint) (room
       → KeepsBefore circuit tech constraints room place left old new
       → KeepsBefore circuit tech constraints room (place + 1) (left - length path) old
       (new ++ path ∷ [])
-  keeps_next place left new path default here found before = record {
-    pushed = before.pushed ++ path ∷ [];
-    is = ap (λ l. l ++ path ∷ []) before.is ∙ append_assoc old before.pushed (path ∷ []);
-    within = λ more rest within.
-        subst (ArePathsWithin circuit tech room (constraints ++ more))
-        (sym (append_snoc before.pushed path rest)) (before.within more (path ∷ rest)
-        (subst (λ l. ArePathsWithin circuit tech left (l ++ more) (path ∷ rest))
-        (sym (drop_more constraints place default here))
-        (kept_first circuit tech left (get_or constraints place default)
-        (drop (place + 1) constraints ++ more) found.whole path rest found.gives found.kept
-        within)));
-  }
+  keeps_next place left new path default here found before = grind (arith, append_assoc, append_snoc, drop_more, kept_first)
 
   -- all of them
   pub keeps_all : (place left : ℕ) (new : List (List ℕ)) → length constraints ≤ place
       → KeepsBefore circuit tech constraints room place left old new
       → KeepsPaths circuit tech constraints room old new left
-  keeps_all place left new past before = record {
-    pushed = before.pushed;
-    is = before.is;
-    within = λ more rest within. before.within more rest
-        (subst (λ l. ArePathsWithin circuit tech left (l ++ more) rest)
-        (sym (drop_all place constraints past)) within);
-  }
+  keeps_all place left new past before = grind (arith, drop_all)
 
 -- the paths of one block more
 pub earlier_paths_more : (circuit : Circuit) (tech : Tech) (cycle : List Constraint)

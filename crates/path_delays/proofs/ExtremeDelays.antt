@@ -72,18 +72,8 @@ pub record IsReachBy (greatest : Bool) (circuit : Circuit) (tech : Tech) (from s
 -- the one half of what a walk found
 pub reach_by : (greatest : Bool) (circuit : Circuit) (tech : Tech) (from signal : ℕ) (sums : Sums)
     → AreExtreme circuit tech from signal sums → IsReachBy greatest circuit tech from signal sums
-reach_by true circuit tech from signal sums reach = record {
-  chain = reach.shown.greatest.0;
-  is_chain = reach.shown.greatest.1;
-  shown = reach.shown.greatest.2;
-  extreme = reach.greatest;
-}
-reach_by false circuit tech from signal sums reach = record {
-  chain = reach.shown.least.0;
-  is_chain = reach.shown.least.1;
-  shown = reach.shown.least.2;
-  extreme = reach.least;
-}
+reach_by true circuit tech from signal sums reach = grind (arith)
+reach_by false circuit tech from signal sums reach = grind (arith)
 
 -- neither of two numbers is further than the other
 pub same_extreme : (greatest : Bool) (one other : ℤ) → IsNoFurther greatest one other

@@ -1,5 +1,5 @@
 -- The first of some signals at which a walk found the greatest sum of all, or the least.
-use Rattle.path_delays.proofs.Vocabulary.{ℕ, ◌≡◌, ◌<◌, ◌+◌, Bool, true, false, List, length, get_or, Contains, IsSomeAnd, sym, ◌∙◌, subst, arith, inl, inr, ℤ, cases_lt, get_or_default, some_and, Sums, Walk, IsAround, sums_to, AreExtremesOf, StandsAt, extreme_of, IsNoFurther, IsFurthest}
+use Rattle.path_delays.proofs.Vocabulary.{ℕ, ◌≡◌, ◌<◌, ◌+◌, Bool, true, false, List, length, get_or, Contains, IsSomeAnd, arith, ℤ, cases_lt, get_or_default, some_and, Sums, Walk, IsAround, sums_to, AreExtremesOf, StandsAt, extreme_of, IsNoFurther, IsFurthest}
 
 -- the walk found this extreme at the signal
 abbrev pub FitsAt : Walk → (lane : ℕ) → Bool → ℤ → ℕ → Type 0
@@ -23,41 +23,16 @@ module _ (walk : Walk) (lane : ℕ) (signals : List ℕ) (greatest : Bool) (sums
   pub furthest_found : (signal : ℕ) → Contains signals signal
       → FitsAt walk lane greatest (extreme_of greatest sums) signal
       → IsFurthest walk lane (Contains signals) greatest signal
-  furthest_found signal listed fits =
-      let found = some_and (sums_to walk lane signal)
-      (λ entry. extreme_of greatest entry ≡ extreme_of greatest sums) fits in
-      record {
-        is_one = listed;
-        sums = found.0;
-        here = found.1;
-        furthest = λ other entry is_one there.
-            subst (IsNoFurther greatest (extreme_of greatest entry)) (sym found.2)
-            (no_further_around greatest sums entry (are.around entry (other, is_one, there)));
-      }
+  furthest_found signal listed fits = grind (arith, some_and, no_further_around)
 
   -- and there is one
   pub some_fits : NoneFitsBefore walk lane signals greatest (extreme_of greatest sums)
       (length signals) → ⊥
-  some_fits none = at greatest none
-    where
-      at : (b : Bool) → NoneFitsBefore walk lane signals b (extreme_of b sums) (length signals)
-          → ⊥
-      at true none =
-          let (high, (last, (place, within, stands), at_last), greatest_is) = are.shown.greatest in
-          none place within (subst (FitsAt walk lane true sums.greatest)
-          (sym stands ∙ get_or_default signals place last 0 within) (rw at_last greatest_is))
-      at false none =
-          let (low, (first, (place, within, stands), at_first), least_is) = are.shown.least in
-          none place within (subst (FitsAt walk lane false sums.least)
-          (sym stands ∙ get_or_default signals place first 0 within) (rw at_first least_is))
+  some_fits none = grind (arith, get_or_default)
 
 -- one signal more at which it didn't
 pub none_fits_next : (walk : Walk) (lane : ℕ) (signals : List ℕ) (greatest : Bool) (extreme : ℤ)
     (count : ℕ) → (FitsAt walk lane greatest extreme (get_or signals count 0) → ⊥)
     → NoneFitsBefore walk lane signals greatest extreme count
     → NoneFitsBefore walk lane signals greatest extreme (count + 1)
-none_fits_next walk lane signals greatest extreme count unfit none place before fits =
-    elim (cases_lt place count) [
-      | inl earlier ↦ none place earlier fits
-      | inr later ↦ let same : place ≡ count = omega arith in unfit (rw same at fits)
-    ]
+none_fits_next walk lane signals greatest extreme count unfit none place before fits = grind (arith, cases_lt)

@@ -1,5 +1,5 @@
 -- Sums in lanes: that they keep within their limits, and what is shown of them.
-use Rattle.path_delays.proofs.Vocabulary.{cond, ◌≡◌, ◌+◌, ◌≤◌, ℕ, pos, ◌≤ℤ◌, Bool, true, false, List, length, get_or, Option, Some, None, inl, inr, refl, sym, ◌∙◌, ap, subst, arith, IsSome, int_lt, option_and_then, option_map, cases_lt, get_or_past, get_or_default, clamps, ints, same_Some, Lanes, Sums, lane_of, AreBounded, AreMissing, AreWithin, delay_limit, either_sums, joined_sums, merged_sums, no_sums, some_sums, sums_through}
+use Rattle.path_delays.proofs.Vocabulary.{◌≡◌, ◌+◌, ◌≤◌, ℕ, pos, ◌≤ℤ◌, List, get_or, Option, Some, None, inl, inr, refl, sym, ◌∙◌, ap, subst, arith, IsSome, option_and_then, option_map, cases_lt, get_or_past, get_or_default, clamps, ints, same_Some, Lanes, Sums, lane_of, AreBounded, AreMissing, AreWithin, delay_limit, either_sums, joined_sums, merged_sums, no_sums, some_sums, sums_through}
 use Rattle.path_delays.proofs.Rooms.{within_higher}
 use Rattle.path_delays.proofs.SumLemmas.{within_joined, within_through}
 
@@ -16,25 +16,12 @@ some_mapped f (Some x) y mapped = refl
 
 -- where nothing is, nothing is handed on yet
 pub none_missing : (limit : ℕ) → AreMissing limit no_sums
-none_missing limit = record {
-  least_above = omega (arith, ints);
-  least_below = omega (arith, ints);
-  greatest_above = omega (arith, ints);
-  greatest_below = omega (arith, ints);
-}
+none_missing limit = grind (arith, ints, clamps)
 
 -- what is bounded by a limit is so by a higher one
 pub bounded_higher : (limit higher : ℕ) (sums : Sums) → limit ≤ higher → AreBounded limit sums
     → AreBounded higher sums
-bounded_higher limit higher sums more bounded = elim bounded [
-  | inl within ↦ inl (within_higher limit higher sums more within)
-  | inr missing ↦ inr (record {
-    least_above = missing.least_above;
-    least_below = omega (arith, ints, missing.least_below);
-    greatest_above = missing.greatest_above;
-    greatest_below = omega (arith, ints, missing.greatest_below);
-  })
-]
+bounded_higher limit higher sums more bounded = grind (arith, ints, clamps, within_higher)
 
 -- nothing is there after a delay more where nothing was
 missing_through : (limit more higher : ℕ) (sums delay : Sums) → limit + more ≤ higher
@@ -49,54 +36,22 @@ missing_through limit more higher sums delay room missing small = record {
 -- a delay more keeps within a limit that is higher by so much
 pub bounded_through : (limit more higher : ℕ) (sums delay : Sums) → limit + more ≤ higher
     → AreBounded limit sums → AreWithin more delay → AreBounded higher (sums_through sums delay)
-bounded_through limit more higher sums delay room bounded small = elim bounded [
-  | inl within ↦ inl (within_through limit more higher sums delay room within small)
-  | inr missing ↦ inr (missing_through limit more higher sums delay room missing small)
-]
+bounded_through limit more higher sums delay room bounded small = grind (arith, ints, clamps, within_through, missing_through)
 
 -- what is bounded by the limit of all delays is there where it isn't below 0
 pub bounded_some : (limit : ℕ) (sums : Sums) → limit ≤ delay_limit → AreBounded limit sums
     → pos 0 ≤ℤ sums.greatest → AreWithin limit sums
-bounded_some limit sums few bounded some = elim bounded [
-  | inl within ↦ within
-  | inr missing ↦ absurd (omega (arith, ints, some, missing.greatest_below))
-]
+bounded_some limit sums few bounded some = grind (arith, ints, clamps)
 
 -- merged sums of which one is missing are within the limit of the other
 within_merged : (limit : ℕ) (some none : Sums) → AreWithin limit some → AreMissing limit none
     → AreWithin limit (merged_sums some none) × AreWithin limit (merged_sums none some)
-within_merged limit some none within missing = (
-  record {
-    least = record {
-      above = omega (arith, ints, clamps, within.least.above, missing.least_above);
-      below = omega (arith, ints, clamps, within.least.below);
-    };
-    greatest = record {
-      above = omega (arith, ints, clamps, within.greatest.above);
-      below = omega (arith, ints, clamps, within.greatest.below, missing.greatest_below);
-    };
-  },
-  record {
-    least = record {
-      above = omega (arith, ints, clamps, within.least.above, missing.least_above);
-      below = omega (arith, ints, clamps, within.least.below);
-    };
-    greatest = record {
-      above = omega (arith, ints, clamps, within.greatest.above);
-      below = omega (arith, ints, clamps, within.greatest.below, missing.greatest_below);
-    };
-  },
-)
+within_merged limit some none within missing = grind (arith, ints, clamps)
 
 -- merged sums of which both are missing are
 missing_merged : (limit : ℕ) (known sums : Sums) → AreMissing limit known → AreMissing limit sums
     → AreMissing limit (merged_sums known sums)
-missing_merged limit known sums was missing = record {
-  least_above = omega (arith, ints, clamps, was.least_above, missing.least_above);
-  least_below = omega (arith, ints, clamps, was.least_below, missing.least_below);
-  greatest_above = omega (arith, ints, clamps, was.greatest_above, missing.greatest_above);
-  greatest_below = omega (arith, ints, clamps, was.greatest_below, missing.greatest_below);
-}
+missing_merged limit known sums was missing = grind (arith, ints, clamps)
 
 -- what is bounded is joined within the bounds
 pub bounded_joined : (limit : ℕ) (known : Option Sums) (sums : Sums)
@@ -118,48 +73,21 @@ bounded_joined limit (Some old) sums before bounded = elim (before old refl) [
 -- sums that are there stay as they are when they are merged with missing ones
 merged_same : (limit : ℕ) (some none : Sums) → limit ≤ delay_limit → AreWithin limit some
     → AreMissing limit none → (merged_sums some none ≡ some) × (merged_sums none some ≡ some)
-merged_same limit some none few within missing = (
-  same_sums (merged_sums some none) some
-      (omega (arith, ints, clamps, within.least.below, missing.least_above))
-      (omega (arith, ints, clamps, within.greatest.above, missing.greatest_below)),
-  same_sums (merged_sums none some) some
-      (omega (arith, ints, clamps, within.least.below, missing.least_above))
-      (omega (arith, ints, clamps, within.greatest.above, missing.greatest_below)),
-)
-  where
-    same_sums : (first second : Sums) → first.least ≡ second.least
-        → first.greatest ≡ second.greatest → first ≡ second
-    same_sums first second least greatest =
-        λ i. record { least = least i; greatest = greatest i }
+merged_same limit some none few within missing = grind (arith, ints, clamps)
 
 -- sums within a limit are there
 pub some_within : (limit : ℕ) (sums : Sums) → AreWithin limit sums → some_sums sums ≡ Some sums
-some_within limit sums within = at (int_lt sums.greatest (pos 0)) refl
-  where
-    at : (below : Bool) → int_lt sums.greatest (pos 0) ≡ below
-        → cond below None (Some sums) ≡ Some sums
-    at true below = absurd (omega (arith, ints, below, within.greatest.above))
-    at false some = refl
+some_within limit sums within = grind (arith, ints, clamps)
 
 -- and missing ones are not
 some_missing : (limit : ℕ) (sums : Sums) → limit ≤ delay_limit → AreMissing limit sums
     → some_sums sums ≡ None
-some_missing limit sums few missing = at (int_lt sums.greatest (pos 0)) refl
-  where
-    at : (below : Bool) → int_lt sums.greatest (pos 0) ≡ below
-        → cond below None (Some sums) ≡ None
-    at true below = refl
-    at false some = absurd (omega (arith, ints, some, missing.greatest_below))
+some_missing limit sums few missing = grind (arith, ints, clamps)
 
 -- what is there is as it stands, and isn't below 0
 pub some_is_there : (sums entry : Sums) → some_sums sums ≡ Some entry
     → (sums ≡ entry) × (pos 0 ≤ℤ sums.greatest)
-some_is_there sums entry some = at (int_lt sums.greatest (pos 0)) refl some
-  where
-    at : (below : Bool) → int_lt sums.greatest (pos 0) ≡ below
-        → cond below None (Some sums) ≡ Some entry → (sums ≡ entry) × (pos 0 ≤ℤ sums.greatest)
-    at true below none = absurd cc
-    at false not_below same = (same_Some sums entry same, omega (arith, ints, not_below))
+some_is_there sums entry some = grind (arith, ints, clamps, same_Some)
 
 -- of two sums that may be missing those that are there become one
 pub some_merged : (limit : ℕ) (known sums : Sums) → limit ≤ delay_limit → AreBounded limit known
@@ -202,11 +130,7 @@ pub some_joined : (limit : ℕ) (known : Option Sums) (sums : Sums) → limit �
     → ((old : Sums) → known ≡ Some old → AreBounded limit old) → AreBounded limit sums
     → some_sums (joined_sums known sums)
     ≡ either_sums (option_and_then some_sums known) (some_sums sums)
-some_joined limit None sums few before bounded = alone (some_sums sums)
-  where
-    alone : (o : Option Sums) → o ≡ either_sums None o
-    alone None = refl
-    alone (Some entry) = refl
+some_joined limit None sums few before bounded = grind (arith, ints, clamps)
 some_joined limit (Some old) sums few before bounded =
     some_merged limit old sums few (before old refl) bounded
 
@@ -215,18 +139,7 @@ pub some_through : (limit more higher : ℕ) (sums delay : Sums) → limit + mor
     → higher ≤ delay_limit → AreBounded limit sums → AreWithin more delay
     → some_sums (sums_through sums delay)
     ≡ option_map (λ (one : Sums). sums_through one delay) (some_sums sums)
-some_through limit more higher sums delay room few bounded small = elim bounded [
-  | inl within ↦
-      some_within higher (sums_through sums delay)
-      (within_through limit more higher sums delay room within small)
-      ∙ ap (option_map (λ (one : Sums). sums_through one delay))
-      (sym (some_within limit sums within))
-  | inr missing ↦
-      some_missing higher (sums_through sums delay) few
-      (missing_through limit more higher sums delay room missing small)
-      ∙ ap (option_map (λ (one : Sums). sums_through one delay))
-      (sym (some_missing limit sums (omega (arith, room, few)) missing))
-]
+some_through limit more higher sums delay room few bounded small = grind (arith, ints, clamps, some_within, within_through, some_missing, missing_through)
 
 -- what is there in a lane is reached
 pub lanes_there : (known : Option Lanes) (lane : ℕ) (sums : Sums)
@@ -239,14 +152,4 @@ lanes_there (Some lanes) lane sums here = refl
 pub bounded_read : (limit : ℕ) (sums : List Sums) (lane : ℕ)
     → AreBounded limit (get_or sums lane no_sums)
     → AreBounded limit (get_or sums lane (record { least = pos 0; greatest = pos 0 }))
-bounded_read limit sums lane bounded = elim (cases_lt lane (length sums)) [
-  | inl inside ↦ subst (AreBounded limit) (get_or_default sums lane no_sums zero inside) bounded
-  | inr past ↦ subst (AreBounded limit) (sym (get_or_past sums lane zero past))
-      (inl (record {
-        least = record { above = omega (arith, ints); below = omega (arith, ints) };
-        greatest = record { above = omega (arith, ints); below = omega (arith, ints) };
-      }))
-]
-  where
-    zero : Sums
-    zero = record { least = pos 0; greatest = pos 0 }
+bounded_read limit sums lane bounded = grind (arith, ints, clamps, cases_lt, get_or_default, get_or_past)

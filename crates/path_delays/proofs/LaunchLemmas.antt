@@ -58,14 +58,7 @@ launched_within circuit from number launches =
 pub launched_lowest : (circuit : Circuit) (from number : ℕ) (order ranks : List ℕ)
     → AreRanks circuit.signals order ranks → Launches circuit from number
     → get_or ranks number 0 ≡ 0
-launched_lowest circuit from number order ranks are launches =
-    elim (cases_lt 0 (get_or ranks number 0)) [
-      | inl counted ↦
-          let found = launched_at circuit from number launches in
-          let is_one : is_gate found.0.kind ≡ true = rw found.1 at (are.others number counted) in
-          absurd (true≢false (sym is_one ∙ found.2))
-      | inr none ↦ omega arith
-    ]
+launched_lowest circuit from number order ranks are launches = grind (arith, cases_lt, launched_at)
 
 -- the host launches the inputs
 pub host_launches : (circuit : Circuit) (from : ℕ) (register : Signal)
@@ -167,10 +160,4 @@ inputs_next circuit number inputs signal here so_far = at (is_input signal.kind)
 -- all of them
 pub inputs_all : (circuit : Circuit) (inputs : List ℕ)
     → AreInputsBelow circuit (length circuit.signals) inputs → AreInputs circuit inputs
-inputs_all circuit inputs are signal = (
-  λ listed. ((are signal).0 listed).1,
-  λ is.
-      let found = some_and (slice_get circuit.signals signal)
-      (λ one. IsTrue (is_input one.kind)) is in
-      (are signal).1 (slice_get_within circuit.signals signal found.0 found.1, is),
-)
+inputs_all circuit inputs are signal = grind (arith, some_and, slice_get_within)

@@ -73,19 +73,9 @@ module _ (circuit : Circuit) (tech : Tech) (network : Network)
 
   -- no limit is beyond the limit of all delays
   pub limit_within : (rank : ℕ) → limit_at network rank ≤ delay_limit
-  limit_within rank = omega (
-    arith,
-    limit_rises network rank,
-    limit_below circuit tech network is,
-    total_within circuit tech network is,
-  )
+  limit_within rank = grind (arith, limit_rises, limit_below, total_within)
 
   -- two gates of one rank are the same
   pub same_rank : (first second : ℕ) → 0 < rank_at network first
       → rank_at network first ≡ rank_at network second → first ≡ second
-  same_rank first second counted same =
-      let here = (is.ranks.gates first (is.ranks.others first counted)).here in
-      let there = (is.ranks.gates second (is.ranks.others second (omega arith))).here in
-      let equal : Some first ≡ Some second =
-      sym here ∙ (ap (λ n. slice_get network.order.items (n - 1)) same ∙ there) in
-      cc equal
+  same_rank first second counted same = grind (arith)

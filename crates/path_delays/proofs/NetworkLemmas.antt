@@ -1,15 +1,11 @@
 -- The readers of each signal, and the place of each gate in the order.
-use Rattle.path_delays.proofs.Vocabulary.{◌≡◌, ◌≢◌, ◌+◌, ◌-◌, ◌*◌, ◌<◌, ◌≤◌, ◌==◌, ℕ, zero, suc, Bool, true, false, cond, IsTrue, List, [], ◌∷◌, ◌++◌, length, map, filter, replicate, get_or, set, sum, All, AllPairs, Contains, Option, Some, None, IsSomeAnd, inl, inr, refl, sym, ◌∙◌, ap, subst, arith, slice_get, sum_by, option_map_or, cases_eq, cases_lt, eqb-true, eq-eqb, length-append, length-map, length-set, length-take, get_or-map, get_or-take, get_or-set_same, get_or-set_other, get_or_default, length-replicate, get_or-replicate, get_or_past, sum_by_more, sum_by-cons, sum_by-set, sum_by-le-sum_by, sum-map, All-nil, All-map, All-filter, All-append, All-contains, All-contains_itself, filter_passes, Contains-append_left, Contains-append_right, get_or_from_slice_get, slice_get_within, slice_get-get_or, Signal, Circuit, is_gate, gate_inputs, has_host, IsGate, Reads, Groups, group_of, HasGroups, IsTopologicalOrder, Contains-cons, IsGate-from_Reads, gate_within, AreAllReads, all_reads_by, AreReaders, HasPlaceInOrder, ArePlaces, AreRanks, weight_of, weight_at}
+use Rattle.path_delays.proofs.Vocabulary.{◌≡◌, ◌≢◌, ◌+◌, ◌-◌, ◌*◌, ◌<◌, ◌≤◌, ◌==◌, ℕ, zero, suc, Bool, true, false, cond, IsTrue, List, [], ◌∷◌, ◌++◌, length, map, filter, replicate, get_or, set, sum, All, AllPairs, Contains, Option, Some, None, IsSomeAnd, inl, inr, refl, sym, ◌∙◌, ap, subst, arith, slice_get, sum_by, option_map_or, cases_eq, cases_lt, eqb-true, eq-eqb, length-append, length-map, length-set, length-take, get_or-map, get_or-take, get_or-set_same, get_or-set_other, get_or_default, length-replicate, get_or-replicate, get_or_past, sum_by_more, sum_by-cons, sum_by-set, sum_by-le-sum_by, sum-map, All-nil, All-map, All-filter, All-append, All-contains, All-contains_itself, filter_passes, Contains-append_left, Contains-append_right, get_or_from_slice_get, slice_get_within, slice_get-get_or, Signal, Circuit, is_gate, gate_inputs, IsGate, Reads, Groups, group_of, HasGroups, IsTopologicalOrder, Contains-cons, IsGate-from_Reads, gate_within, AreAllReads, all_reads_by, AreReaders, HasPlaceInOrder, ArePlaces, AreRanks, weight_of, weight_at}
 use Rattle.std.proofs.lemmas.List.Folds.{sum_by-replicate}
 use Rattle.gate_order.specs.Grouped.{values_at}
 
 -- no pairs of no signals
 pub AreAllReads-none : (signals : List Signal) → AreAllReads signals 0 []
-AreAllReads-none signals = record {
-  each = All-nil (λ (pair : ℕ × ℕ). Reads signals pair.1 pair.0);
-  all = λ gate read lower reads. absurd (omega arith);
-  few = omega arith;
-}
+AreAllReads-none signals = grind (arith, All-nil)
 
 -- what a list contains, its image contains
 pub Contains-map : {X Y : Type 0} (f : X → Y) (xs : List X) (x : X) → Contains xs x
@@ -133,54 +129,14 @@ AreReaders-grouped signals pairs groups within reads grouped = record {
 
 -- no number has a place in no items
 pub ArePlaces-none : (limit : ℕ) (order : List ℕ) → ArePlaces limit order 0 (replicate limit 0)
-ArePlaces-none limit order = record {
-  covers = length-replicate {A = ℕ} limit 0;
-  each = λ place before. absurd (omega arith);
-  placed = λ number counted. absurd (omega (arith, zero_at number));
-}
-  where
-    zero_at : (number : ℕ) → get_or {A = ℕ} (replicate limit 0) number 0 ≡ 0
-    zero_at number = elim (cases_lt number limit) [
-      | inl inside ↦ get_or-replicate {A = ℕ} limit number 0 0 inside
-      | inr past ↦ get_or_past {X = ℕ} (replicate limit 0) number 0
-          (omega (arith, length-replicate {A = ℕ} limit 0))
-    ]
+ArePlaces-none limit order = grind (arith, length-replicate, cases_lt, get_or-replicate, get_or_past)
 
 -- one more item's place
 pub ArePlaces-more : (limit : ℕ) (order : List ℕ) (passed : ℕ) (places : List ℕ) (number : ℕ)
     → AllPairs (λ first second. first ≢ second) order → passed < length order
     → number ≡ get_or order passed 0 → number < limit → ArePlaces limit order passed places
     → ArePlaces limit order (passed + 1) (set places number (passed + 1))
-ArePlaces-more limit order passed places number once inside read known so_far = record {
-  covers = length-set places number (passed + 1) ∙ so_far.covers;
-  each = λ place before. elim (cases_lt place passed) [
-    | inl earlier ↦ get_or-set_other places number (get_or order place 0) (passed + 1) 0
-        (λ same. once place passed 0 earlier inside (same ∙ read)) ∙ so_far.each place earlier
-    | inr last ↦
-        let here : passed ≡ place = omega arith in
-        subst (λ p. get_or (set places number (passed + 1)) (get_or order p 0) 0 ≡ p + 1) here
-        (ap (λ n. get_or (set places number (passed + 1)) n 0) (sym read) ∙ put)
-  ];
-  placed = λ other counted. elim (cases_eq other number) [
-    | inl same ↦
-        let value : get_or (set places number (passed + 1)) other 0 ≡ passed + 1 =
-        ap (λ n. get_or (set places number (passed + 1)) n 0) same ∙ put in
-        let prefix : passed + 1 - 1 ≡ passed = omega arith in
-        subst (HasPlaceInOrder order other) (sym value)
-        (record {
-          counted = omega arith;
-          here = ap (slice_get order) prefix
-              ∙ (slice_get-get_or order passed 0 inside ∙ ap Some (sym (same ∙ read)));
-        })
-    | inr apart ↦
-        let value : get_or (set places number (passed + 1)) other 0 ≡ get_or places other 0 =
-        get_or-set_other places number other (passed + 1) 0 apart in
-        subst (HasPlaceInOrder order other) (sym value) (so_far.placed other (rw value at counted))
-  ];
-}
-  where
-    put : get_or (set places number (passed + 1)) number 0 ≡ passed + 1
-    put = get_or-set_same places number (passed + 1) 0 (omega (arith, so_far.covers))
+ArePlaces-more limit order passed places number once inside read known so_far = grind (arith, length-set, cases_lt, get_or-set_other, cases_eq, slice_get-get_or, get_or-set_same)
 
 -- in an order of gates, places rise from what is read to what reads it
 pub AreRanks-placed : (signals : List Signal) (order places : List ℕ)
@@ -325,17 +281,7 @@ weights_are (signal ∷ signals) = omega (
 
 -- a circuit's signals
 pub weights_within : (circuit : Circuit) → sum_by weight_of circuit.signals ≤ 65799144000
-weights_within circuit = omega (
-  arith,
-  weights_are circuit.signals,
-  one (has_host circuit.signals),
-  circuit.valid.few_signals,
-  circuit.valid.few_inputs,
-)
-  where
-    one : (b : Bool) → cond {A = ℕ} b 1 0 ≤ 1
-    one true = omega arith
-    one false = omega arith
+weights_within circuit = grind (arith, weights_are)
 
 -- each gate weighs something
 weights_of_gates : (signals : List Signal) (gates : List ℕ) → All (IsGate signals) gates

@@ -5,35 +5,17 @@ use Rattle.path_delays.proofs.Vocabulary.{ℕ, ◌≡◌, ◌<◌, ◌≤◌, �
 -- what is listed stays so with one item more
 any_before : (Property : PairDelay → Type 0) (pairs : List PairDelay) (pair : PairDelay)
     → Any Property pairs → Any Property (pairs ++ pair ∷ [])
-any_before Property pairs pair any = (
-  any.0,
-  any.1,
-  omega (arith, any.2, length_push pairs pair),
-  get_or_append_left pairs (pair ∷ []) any.1 any.0 any.2 ∙ any.3,
-  any.4,
-)
+any_before Property pairs pair any = grind (arith, length_push, get_or_append_left)
 
 module _ (circuit : Circuit) (tech : Tech) where
   -- before the first pair comes none
   pub none_before : ListsPairsBefore circuit tech 0 0 []
-  none_before = record {
-    ordered = λ i j d before within. absurd (omega arith);
-    before = λ k d within. absurd (omega arith);
-    delays = λ k d within. absurd (omega arith);
-    small = λ k d within. absurd (omega arith);
-    all = λ launch capture path before is_path. absurd (grind arith);
-  }
+  none_before = grind (arith)
 
   -- what comes before a later pair of the same register comes before this one or is between the two
   before_later : (launch capture from low high : ℕ) → ComesBefore launch capture from high
       → ComesBefore launch capture from low ⊎ ((launch ≡ from) × (low ≤ capture) × (capture < high))
-  before_later launch capture from low high before = elim before [
-    | inl lower ↦ inl (inl lower)
-    | inr level ↦ elim (cases_lt capture low) [
-      | inl less ↦ inl (inr (level.0, less))
-      | inr more ↦ inr (level.0, more, level.1)
-    ]
-  ]
+  before_later launch capture from low high before = grind (arith, cases_lt)
 
   -- what comes before a pair comes before a later one
   still_before : (launch capture from low high : ℕ) → low ≤ high
@@ -118,15 +100,4 @@ module _ (circuit : Circuit) (tech : Tech) where
   pub all_listed : (from : ℕ) (pairs : List PairDelay) → length circuit.registers ≤ from
       → length pairs ≤ pair_limit → ListsPairsBefore circuit tech from 0 pairs
       → ArePairs circuit tech pairs
-  all_listed from pairs past few lists = record {
-    lists = record {
-      ordered = lists.ordered;
-      delays = lists.delays;
-      all = λ launch capture path is_path.
-          let launch_within : launch < length circuit.registers =
-          (path_within circuit launch capture path is_path).0 in
-          lists.all launch capture path (inl (omega arith)) is_path;
-    };
-    few = few;
-    small = lists.small;
-  }
+  all_listed from pairs past few lists = grind (arith, path_within)

@@ -1,5 +1,5 @@
 -- The walk back from the end of a path, each time to the signal that was found furthest.
-use Rattle.path_delays.proofs.Vocabulary.{ℕ, ◌≡◌, ◌<◌, ◌≤◌, ◌⊎◌, Bool, List, [], ◌∷◌, ◌++◌, length, reverse, Option, Some, None, Contains, refl, sym, ◌∙◌, ap, subst, arith, inl, inr, ◌+ℤ◌, slice_get, true≢false, ints, reverse-append, same_Some, Signal, Circuit, Tech, register_signal, Reads, Follows, Launches, Captures, Sums, Walk, IsChain, IsReach, rank_at, HasRanksOf, HasReachBetween, sums_to, delay_by, extreme_of, IsNoFurther, IsExtremePath, IsFurthest}
+use Rattle.path_delays.proofs.Vocabulary.{ℕ, ◌≡◌, ◌<◌, ◌≤◌, ◌⊎◌, Bool, List, [], ◌∷◌, ◌++◌, length, reverse, Option, Some, None, Contains, refl, sym, ◌∙◌, ap, subst, arith, inl, inr, ◌+ℤ◌, slice_get, ints, reverse-append, same_Some, Signal, Circuit, Tech, register_signal, Reads, Follows, Launches, Captures, Sums, Walk, IsChain, IsReach, rank_at, HasRanksOf, HasReachBetween, sums_to, delay_by, extreme_of, IsNoFurther, IsExtremePath, IsFurthest}
 use Rattle.gate_order.proofs.Rings.{follows_joined}
 use Rattle.path_delays.proofs.ExtremeDelays.{own_by, gate_by, through_by, delay_is, delay_push, IsReachBy, reach_by, same_extreme, no_further_than, no_further_after}
 use Rattle.path_delays.proofs.LaunchLemmas.{launched_at}
@@ -9,10 +9,7 @@ use Rattle.path_delays.proofs.ReachedPairs.{captured_within, chain_of_path}
 -- what a register launches reads nothing
 launched_no_gate : (circuit : Circuit) (from number read : ℕ) → Launches circuit from number
     → Reads circuit.signals number read → ⊥
-launched_no_gate circuit from number read launched reads =
-    let found = launched_at circuit from number launched in
-    let is_one = rw found.1 at reads in
-    true≢false (sym is_one.0 ∙ found.2)
+launched_no_gate circuit from number read launched reads = grind (arith, launched_at)
 
 -- a chain to a signal is this signal alone, or goes through one that it reads
 pub record IsAfter (circuit : Circuit) (first : ℕ) (gates : List ℕ) (last : ℕ) : Type 0 where
@@ -52,13 +49,7 @@ pub captures_furthest : (circuit : Circuit) (to : ℕ) (captured : Signal)
     → register_signal circuit to ≡ Some captured → (walk : Walk) (lane : ℕ) (greatest : Bool)
     (last : ℕ) → IsFurthest walk lane (Contains captured.fan_in) greatest last
     → IsFurthest walk lane (Captures circuit to) greatest last
-captures_furthest circuit to captured found walk lane greatest last furthest = record {
-  is_one = rw found furthest.is_one;
-  sums = furthest.sums;
-  here = furthest.here;
-  furthest = λ other entry is_captured there.
-      furthest.furthest other entry (rw found at is_captured) there;
-}
+captures_furthest circuit to captured found walk lane greatest last furthest = grind (arith)
 
 -- and within the circuit
 pub captures_within : (circuit : Circuit) (to : ℕ) (captured : Signal)
@@ -122,10 +113,7 @@ module _ (circuit : Circuit) (tech : Tech) (from to lane : ℕ) (walk : Walk) (g
   chain_push : (first : ℕ) (prefix : List ℕ) (read gate : ℕ)
       → IsChain circuit from read (first ∷ prefix) → Reads circuit.signals gate read
       → IsChain circuit from gate (first ∷ prefix ++ gate ∷ [])
-  chain_push first prefix read gate is_chain reads = (
-    is_chain.0,
-    follows_joined circuit.signals prefix (gate ∷ []) first read gate is_chain.1 (reads, refl),
-  )
+  chain_push first prefix read gate is_chain reads = grind (arith, follows_joined)
 
   -- so the walk found no less at a gate than what it reads and the gate add up to
   reader_within : (signal read : ℕ) (sums read_sums : Sums) → IsLow signal

@@ -20,16 +20,7 @@ module _ {circuit : Circuit} {from : ℕ} {registers : List ℕ}
   -- one register more
   pub passed_next : place < length registers
       → ArePassed registers (place + 1) (get_or registers place 0 + 1)
-  passed_next within = record {
-    earlier = λ other before. elim (cases_lt other place) [
-      | inl less ↦ omega (arith, reached.ascending other place 0 less within)
-      | inr last ↦ let same : other ≡ place = omega arith in rw same (omega arith)
-    ];
-    later = λ other after inside. omega (
-      arith,
-      reached.ascending place other 0 (omega arith) inside,
-    );
-  }
+  passed_next within = grind (arith, cases_lt)
 
   module _ (tech : Tech) (pairs : List PairDelay)
       (listed : ListsPairsBefore circuit tech from next pairs) where

@@ -1,6 +1,6 @@
 -- From what a walk found at the signals that a register captures to the delays between the two
 -- registers.
-use Rattle.path_delays.proofs.Vocabulary.{ℕ, ◌≡◌, ◌<◌, List, [], ◌∷◌, length, get_or, All, Contains, Option, Some, None, refl, sym, ◌∙◌, subst, arith, ◌≤ℤ◌, slice_get, option_and_then, ints, slice_get_within, get_or_from_slice_get, Signal, Circuit, Tech, PairDelay, register_signal, Captures, IsPath, least_delay, greatest_delay, Sums, Walk, IsChain, AreExtreme, IsReach, sums_to, ReachesEach, AreCapturedBy, AreExtremesOf, StandsAt, IsDelayBetween}
+use Rattle.path_delays.proofs.Vocabulary.{ℕ, ◌≡◌, ◌<◌, List, [], ◌∷◌, length, get_or, All, Contains, Option, Some, None, refl, sym, ◌∙◌, subst, arith, ◌≤ℤ◌, ints, slice_get_within, get_or_from_slice_get, Signal, Circuit, Tech, PairDelay, register_signal, Captures, IsPath, least_delay, greatest_delay, Sums, Walk, IsChain, AreExtreme, IsReach, sums_to, ReachesEach, AreCapturedBy, AreExtremesOf, StandsAt, IsDelayBetween}
 
 -- what a signal reads are signals of the circuit
 pub read_within : (circuit : Circuit) (number : ℕ) (signal : Signal)
@@ -13,14 +13,7 @@ read_within circuit number signal within here =
 pub captured_within : (circuit : Circuit) (register : ℕ) (signal : Signal)
     → register_signal circuit register ≡ Some signal
     → All (λ number. number < length circuit.signals) signal.fan_in
-captured_within circuit register signal found = at (slice_get circuit.registers register) found
-  where
-    at : (listed : Option ℕ) → option_and_then (slice_get circuit.signals) listed ≡ Some signal
-        → All (λ number. number < length circuit.signals) signal.fan_in
-    at None found = cc found
-    at (Some number) found =
-        read_within circuit number signal (slice_get_within circuit.signals number signal found)
-        (sym (get_or_from_slice_get circuit.signals number signal signal found))
+captured_within circuit register signal found = grind (arith, read_within, slice_get_within, get_or_from_slice_get)
 
 -- a chain to a signal that the register captures is a path
 pub path_of_chain : (circuit : Circuit) (from to signal : ℕ) (chain : List ℕ)
@@ -60,10 +53,7 @@ module _ (circuit : Circuit) (tech : Tech) (from to lane : ℕ) (walk : Walk) (c
   -- so no path joins the registers, where it found nothing at any
   pub no_path : ((signal : ℕ) → Contains captured signal → sums_to walk lane signal ≡ None)
       → (path : List ℕ) → IsPath circuit from to path → ⊥
-  no_path none path is_path =
-      let chain = chain_of_path circuit from to path is_path in
-      let listed = (exact chain.0).1 chain.2 in
-      no_chain chain.0 path listed (none chain.0 listed) chain.1
+  no_path none path is_path = grind (arith, chain_of_path, no_chain)
 
   -- the delays of a path lie within the extremes at all captured signals
   path_within : (sums : Sums)

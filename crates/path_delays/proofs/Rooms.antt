@@ -1,5 +1,5 @@
 -- Room for a walk over a network.
-use Rattle.path_delays.proofs.Vocabulary.{◌≡◌, ◌≢◌, ◌+◌, ◌-◌, ◌*◌, ◌^◌, ◌<◌, ◌≤◌, ℕ, zero, suc, ℤ, ◌-ℤ◌, ◌≤ℤ◌, List, [], ◌∷◌, length, map, take, get_or, All, AllPairs, inl, inr, refl, sym, ◌∙◌, ap, subst, arith, if◌then◌else◌, int_max, slice_index_or, sum_by, cases_lt, length-map, take_all, get_or-le-sum_by, sum_by_more, sum_by-cons, sum_by-le-sum_by, sum_by-take-le, sum-map, All-map, Contains-get_or, slice_get_within, ints, Signal, Circuit, Tech, group_of, Sums, Network, Reach, AreWithin, delay_limit, IsLeftAfter, IsNetworkOf, gate_sums, weight_of, narrow_limit, rows_of, HasReachRoom, limit_at, limit_of, most_at, most_of, no_delay, rank_at}
+use Rattle.path_delays.proofs.Vocabulary.{◌≡◌, ◌≢◌, ◌+◌, ◌*◌, ◌^◌, ◌<◌, ◌≤◌, ℕ, zero, suc, ℤ, ◌-ℤ◌, ◌≤ℤ◌, List, [], ◌∷◌, length, map, take, get_or, All, AllPairs, refl, sym, ◌∙◌, ap, subst, arith, if◌then◌else◌, int_max, slice_index_or, sum_by, cases_lt, length-map, take_all, get_or-le-sum_by, sum_by_more, sum_by-cons, sum_by-le-sum_by, sum_by-take-le, sum-map, All-map, Contains-get_or, slice_get_within, ints, Signal, Circuit, Tech, group_of, Sums, Network, Reach, AreWithin, delay_limit, IsLeftAfter, IsNetworkOf, gate_sums, weight_of, narrow_limit, rows_of, HasReachRoom, limit_at, limit_of, most_at, most_of, no_delay, rank_at}
 use Rattle.std.specs.Prelude.{true, false, Bool}
 use Rattle.path_delays.proofs.DelayLemmas.{gate_within}
 use Rattle.path_delays.proofs.NetworkLemmas.{distinct_sum-le, reader_within, weights_within}
@@ -8,22 +8,12 @@ use Rattle.path_delays.proofs.SumLemmas.{most_below, most_is, within_most}
 -- sums within a limit are within a higher one
 pub within_higher : (limit higher : ℕ) (sums : Sums) → limit ≤ higher → AreWithin limit sums
     → AreWithin higher sums
-within_higher limit higher sums more within = record {
-  least = record { above = within.least.above; below = omega (arith, ints, within.least.below) };
-  greatest =
-      record { above = within.greatest.above; below = omega (arith, ints, within.greatest.below) };
-}
+within_higher limit higher sums more within = grind (arith, ints)
 
 -- the limit of a rank is no higher than that of the whole order
 pub limit_rises : (network : Network) (rank : ℕ)
     → limit_at network rank ≤ limit_at network (length network.order.items)
-limit_rises network rank =
-    let order = network.order.items in
-    omega (
-      arith,
-      sum_by-take-le (most_at network) order rank,
-      ap (sum_by (most_at network)) (take_all (length order) order (omega arith)),
-    )
+limit_rises network rank = grind (arith, sum_by-take-le, take_all)
 
 -- the delays of gates that aren't equal add up to no more than all delays
 mosts_once : (delays : List Sums) (order : List ℕ) → AllPairs (λ first second. first ≢ second) order
@@ -64,29 +54,13 @@ pub IsLeftAfter-more : (delays : List Sums) (passed : ℕ) (left most : ℤ) (ot
     → most ≡ int_max (get_or delays passed other).least (get_or delays passed other).greatest
     → most ≤ℤ left → IsLeftAfter (take passed delays) left
     → IsLeftAfter (take (passed + 1) delays) (left -ℤ most)
-IsLeftAfter-more delays passed left most other inside within read room so_far =
-    let delay = get_or delays passed other in
-    let more = sum_by_more most_of delays passed other inside in
-    let is = most_is delay_limit delay within in
-    record {
-      above = omega (arith, ints, room);
-      sum = omega (arith, ints, more, is, read, so_far.sum);
-    }
+IsLeftAfter-more delays passed left most other inside within read room so_far = grind (arith, ints, sum_by_more, most_is)
 
 module _ (circuit : Circuit) (tech : Tech) (network : Network)
     (is : IsNetworkOf circuit tech network) where
   -- no rank is beyond the order
   pub rank_within : (number : ℕ) → rank_at network number ≤ length network.order.items
-  rank_within number = elim (cases_lt 0 (rank_at network number)) [
-    | inl counted ↦
-        let placed = is.ranks.gates number (is.ranks.others number counted) in
-        omega (
-          arith,
-          slice_get_within network.order.items (rank_at network number - 1) number placed.here,
-          placed.counted,
-        )
-    | inr none ↦ omega arith
-  ]
+  rank_within number = grind (arith, cases_lt, slice_get_within)
 
   -- the readers of a signal are signals
   readers_within : (signal : ℕ) → signal < length circuit.signals
@@ -130,12 +104,7 @@ module _ (circuit : Circuit) (tech : Tech) (network : Network)
 
   -- and all delays are no more than the limit of all circuits
   pub total_within : 1000000 + sum_by most_of network.delays.items ≤ delay_limit
-  total_within = omega (
-    arith,
-    ap (sum_by most_of) is.delays,
-    mosts_weigh tech circuit.signals,
-    weights_within circuit,
-  )
+  total_within = grind (arith, mosts_weigh, weights_within)
 
   -- each delay is within what all add up to
   delays_below : (limit : ℕ) → sum_by most_of network.delays.items ≤ limit

@@ -1,5 +1,5 @@
 -- The sweep over the signals: what registers launch, then gate after gate, then what is captured.
-use Rattle.path_delays.proofs.Vocabulary.{◌≡◌, ◌+◌, ◌*◌, ◌^◌, ◌<◌, ◌⊎◌, ℕ, ℤ, pos, ◌+ℤ◌, ◌*ℤ◌, true, IsTrue, List, [], ◌∷◌, ◌++◌, length, take, set, get_or, replicate, All, Contains, MatchBool, Option, Some, None, IsSomeAnd, inl, inr, refl, sym, ◌∙◌, ap, subst, arith, nat_abs, slice_get, IfSome, option_and_then, option_map, cases_eq, cases_lt, ints, length-replicate, get_or-replicate, get_or_past, length-set, get_or-set_same, get_or-set_other, get_or-take, length-take-le, take_more, take_all, Contains-get_or, Contains-push_cases, same_Some, slice_get_within, slice_get_read, slice_get-get_or, get_or_from_slice_get, Signal, Circuit, Tech, least_through, greatest_through, least_delay, greatest_delay, is_gate, is_host, is_valid, IsGate, IsInput, Reads, Launches, Captures, IsTopologicalOrder, IsGate-from_Reads, gate_within, Sums, Window, along, AreExtremesIfAny, AreLaunchedBy, AreShownBy, Comes, IsJoinedAt, StandsAt, gate_sums_at, gate_sums, AreAround, sums_through, window_along, IsHullIfAny, IsWindowBelow, ComesTo, AreWindows, window_after, either_window, window_at, AreBelow, IsGateWindow, AreCaptures, BegunTo, start_window, window_limit, sums_of, sums_in, scaled_delay, AreSwept, StartsBelow, NoneHanded, HandedToPassed, AreLaunched, ArePassed}
+use Rattle.path_delays.proofs.Vocabulary.{◌≡◌, ◌+◌, ◌*◌, ◌^◌, ◌<◌, ◌⊎◌, ℕ, ℤ, pos, ◌+ℤ◌, ◌*ℤ◌, true, IsTrue, List, [], ◌∷◌, ◌++◌, length, take, set, get_or, replicate, All, Contains, Option, Some, None, inl, inr, refl, sym, ◌∙◌, ap, subst, arith, nat_abs, slice_get, IfSome, option_map, cases_eq, cases_lt, ints, length-replicate, get_or-replicate, get_or_past, length-set, get_or-set_same, get_or-set_other, get_or-take, length-take-le, take_more, take_all, Contains-get_or, Contains-push_cases, same_Some, slice_get_within, slice_get_read, slice_get-get_or, get_or_from_slice_get, Signal, Circuit, Tech, least_through, greatest_through, is_gate, is_valid, IsGate, Reads, Launches, Captures, IsTopologicalOrder, IsGate-from_Reads, gate_within, Sums, Window, along, AreExtremesIfAny, AreLaunchedBy, AreShownBy, Comes, IsJoinedAt, StandsAt, gate_sums_at, gate_sums, AreAround, sums_through, window_along, IsHullIfAny, IsWindowBelow, ComesTo, AreWindows, window_after, either_window, window_at, AreBelow, IsGateWindow, AreCaptures, BegunTo, start_window, window_limit, sums_of, sums_in, scaled_delay, AreSwept, StartsBelow, NoneHanded, HandedToPassed, AreLaunched, ArePassed}
 use Rattle.cts_model.specs.declared.schedule.Schedule.{Schedule}
 use Rattle.cts_model.specs.timing.Schedules.{arrival_of}
 use Rattle.path_delays.proofs.CarryLemmas.{IsHandedBy, carried_end, carried_joined, carried_none, carried_same, extremes_of_extremes, gate_around, gate_shown, listed_next, shown_start}
@@ -12,14 +12,7 @@ use Rattle.path_delays.proofs.WindowLemmas.{moved, below_wider, below_either, ex
 -- what launches a signal is a register
 launcher_within : (circuit : Circuit) (from number : ℕ) → Launches circuit from number
     → from < length circuit.registers
-launcher_within circuit from number launches = at (slice_get circuit.registers from) refl launches
-  where
-    at : (o : Option ℕ) → slice_get circuit.registers from ≡ o
-        → IsSomeAnd (option_and_then (slice_get circuit.signals) o)
-        (λ signal. MatchBool (is_host signal.kind) (IsInput circuit number)
-        (slice_get circuit.registers from ≡ Some number)) → from < length circuit.registers
-    at None missing none = absurd none
-    at (Some own) here launched = slice_get_within circuit.registers from own here
+launcher_within circuit from number launches = grind (arith, slice_get_within)
 
 -- a gate of the order as it was read
 pub record IsReadGate (circuit : Circuit) (order : List ℕ) (place gate : ℕ)
@@ -45,22 +38,7 @@ pub next_read : (circuit : Circuit) (order gates : List ℕ) (signals : List Sig
     → signals ≡ circuit.signals → place < length gates
     → signal ≡ get_or signals (get_or gates place 0) signal
     → IsReadGate circuit order place (get_or gates place 0) signal
-next_read circuit order gates signals place signal sorted same signals_are low read =
-    let gate = get_or gates place 0 in
-    let within = next_within circuit order gates place sorted same low in
-    let signal_read : signal ≡ get_or circuit.signals gate signal =
-    read ∙ ap (λ l. get_or l gate signal) signals_are in
-    let here = slice_get_read circuit.signals
-    (length circuit.signals) gate signal refl within signal_read in
-    record {
-      stands = subst (λ l. slice_get l place ≡ Some gate) same (slice_get-get_or gates place 0 low);
-      within = within;
-      here = here;
-      is_one = rw here at
-          (subst (λ l. All (IsGate circuit.signals) l) (sym same) sorted.gates place 0 low);
-      valid_inputs = rw (← signal_read) at (circuit.valid.valid_inputs gate signal within);
-      reads = read_within circuit gate signal within signal_read;
-    }
+next_read circuit order gates signals place signal sorted same signals_are low read = grind (arith, next_within, slice_get_read, slice_get-get_or, read_within)
 
 module _ (old new : List (Option Window)) (signal : ℕ) (found : Option Window)
     (within : signal < length old)
@@ -70,13 +48,7 @@ module _ (old new : List (Option Window)) (signal : ℕ) (found : Option Window)
 
   -- what is put at a signal is joined there
   pub put_joined : IsJoinedAt signal (option_map sums_of found) (sums_in old) (sums_in new)
-  put_joined = record {
-    here = ap (option_map sums_of) (ap (λ list. get_or list signal None) put
-        ∙ get_or-set_same old signal either None within)
-        ∙ sums_of_either (window_at old signal) found;
-    others = λ other apart. ap (option_map sums_of) (ap (λ list. get_or list other None) put
-        ∙ get_or-set_other old signal other either None apart);
-  }
+  put_joined = grind (arith, get_or-set_same, sums_of_either, get_or-set_other)
 
   pub put_covers : length new ≡ length old
   put_covers = ap length put ∙ length-set old signal either
@@ -84,14 +56,7 @@ module _ (old new : List (Option Window)) (signal : ℕ) (found : Option Window)
   -- and as small as what stood there
   pub put_small : (bound : ℕ) → AreBelow bound old
       → ((window : Window) → found ≡ Some window → IsWindowBelow bound window) → AreBelow bound new
-  put_small bound before now number window here = elim (cases_eq number signal) [
-    | inl same ↦ below_either bound (window_at old signal) found window (before signal) now
-        (sym (get_or-set_same old signal either None within)
-        ∙ (sym (ap (λ list. get_or list signal None) put) ∙ (ap (window_at new) (sym same) ∙ here)))
-    | inr apart ↦ before number window
-        (sym (get_or-set_other old signal number either None apart)
-        ∙ (sym (ap (λ list. get_or list number None) put) ∙ here))
-  ]
+  put_small bound before now number window here = grind (arith, cases_eq, below_either, get_or-set_same, get_or-set_other)
 
 module _ (circuit : Circuit) (tech : Tech) (schedule : Schedule) where
   abbrev delay : ℕ → Sums
@@ -106,24 +71,7 @@ module _ (circuit : Circuit) (tech : Tech) (schedule : Schedule) where
   -- nothing is launched where nothing stands
   pub launched_none : (count : ℕ) → count ≡ length circuit.signals
       → AreLaunched circuit tech schedule 0 (replicate count None)
-  launched_none count covers = record {
-    covers = length-replicate count nothing ∙ covers;
-    carried = carried_none signals delay AllStart (StartsBelow circuit tech schedule 0) NoneHanded
-        (sums_in (replicate count None))
-        (λ signal start (from, low, launches, same). absurd (omega (arith, low)))
-        (λ signal. ap (option_map sums_of) (none signal));
-    small = λ signal window here. let missing = none signal in absurd cc;
-  }
-    where
-      nothing : Option Window
-      nothing = None
-
-      none : (signal : ℕ) → window_at (replicate count None) signal ≡ None
-      none signal = elim (cases_lt signal count) [
-        | inl low ↦ get_or-replicate count signal nothing nothing low
-        | inr past ↦ get_or_past (replicate count nothing) signal nothing
-            (omega (arith, past, length-replicate count nothing))
-      ]
+  launched_none count covers = grind (arith, length-replicate, carried_none, cases_lt, get_or-replicate, get_or_past)
 
   -- the signals that a register launches, so far
   module _ (from : ℕ) (launched : List ℕ) (all : AreLaunchedBy circuit from launched) where
@@ -221,15 +169,7 @@ module _ (circuit : Circuit) (tech : Tech) (schedule : Schedule) where
   pub passed_none : (order : List ℕ) (windows : List (Option Window))
       → AreLaunched circuit tech schedule (length circuit.registers) windows
       → ArePassed circuit tech schedule order 0 windows
-  passed_none order windows are = record {
-    covers = are.covers;
-    carried = carried_same signals delay AllStart AllStart AllStart NoneHanded
-        (HandedToPassed order 0) (sums_in windows) (sums_in windows)
-        (λ signal sums starts begun. begun)
-        (λ read gate sums here (place, within, listed) reads. absurd (omega arith))
-        (λ signal. refl) are.carried;
-    small = are.small;
-  }
+  passed_none order windows are = grind (arith, carried_same)
 
   -- a gate that is passed takes what all that it reads hands to it
   module _ (gate : ℕ) (signal : Signal) (here : slice_get circuit.signals gate ≡ Some signal)
@@ -383,13 +323,7 @@ module _ (circuit : Circuit) (tech : Tech) (schedule : Schedule) where
   chain_along : (from first : ℕ) (gates : List ℕ)
       → sums_of (window_along circuit tech (nat_abs schedule.den) (arrival_of schedule.at) from
       (first ∷ gates)) ≡ along delay (begin from) gates
-  chain_along from first gates =
-      let least = moved (nat_abs schedule.den) (arrival_of schedule.at from) tech.least
-      (least_through circuit tech gates) (least_delay circuit tech (first ∷ gates)) refl in
-      let greatest = moved (nat_abs schedule.den) (arrival_of schedule.at from) tech.greatest
-      (greatest_through circuit tech gates) (greatest_delay circuit tech (first ∷ gates)) refl in
-      sym (along_is (begin from) gates
-      ∙ (λ i. record { least = least i; greatest = greatest i }))
+  chain_along from first gates = grind (arith, moved, along_is)
 
   -- so what comes to a signal that the register captures comes along a path
   path_of_comes : (register signal : ℕ) (sums : Sums) → Captures circuit register signal

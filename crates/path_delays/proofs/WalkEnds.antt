@@ -43,14 +43,7 @@ module _ (circuit : Circuit) (tech : Tech) where
     comes_of_chain : (signal : ℕ) (chain : List ℕ) → IsChain circuit from signal chain
         → Comes circuit.signals delay Starts signal (chain_sums chain)
     comes_of_chain signal [] none = absurd none
-    comes_of_chain signal (first ∷ gates) (launches, follows) = record {
-      first = first;
-      start = start_sums tech;
-      starts = (from, here, launches, refl);
-      gates = gates;
-      follows = follows;
-      ends = along_is (start_sums tech) gates;
-    }
+    comes_of_chain signal (first ∷ gates) (launches, follows) = grind (arith, along_is)
 
     -- and what comes there has a chain
     chain_of_comes : (signal : ℕ) (sums : Sums) → Comes circuit.signals delay Starts signal sums

@@ -1,6 +1,6 @@
 -- Where a walk starts: at nothing, at a signal that is marked in a lane, and at all that a register
 -- launches.
-use Rattle.path_delays.proofs.Vocabulary.{◌≡◌, ◌≢◌, ◌+◌, ◌<◌, ◌≤◌, ℕ, List, [], length, take, get_or, Contains, Option, Some, None, inl, inr, ◌⊎◌, refl, sym, ◌∙◌, ap, subst, arith, IsSome, option_and_then, option_map, unwrap_or, slice_get, cases_eq, cases_lt, true≢false, take_all, Contains-get_or, same_Some, Circuit, Tech, Launches, Reads, Lanes, Sums, Network, Reach, AreCarried, AreLaunchedBy, AreShownBy, Comes, IsJoinedAt, gate_sums_at, start_sums, AllBounded, lane_of, AreAround, AreBounded, AreWithin, either_sums, merged_sums, no_sums, some_sums, IsNetworkOf, limit_at, limit_of, rank_at, lane_at, lanes_at, sums_at, HasReachRoom, IsCleared, IsMarked, IsStarted, AllBelow, AllBelowBut, BegunIn, IsSpread, IsSpreadBelow, LanesBelow, StartsIn}
+use Rattle.path_delays.proofs.Vocabulary.{◌≡◌, ◌≢◌, ◌+◌, ◌<◌, ◌≤◌, ℕ, List, [], length, take, get_or, Contains, Option, Some, None, inl, inr, ◌⊎◌, refl, sym, ◌∙◌, ap, subst, arith, IsSome, option_and_then, option_map, unwrap_or, slice_get, cases_eq, cases_lt, take_all, Contains-get_or, same_Some, Circuit, Tech, Launches, Reads, Lanes, Sums, Network, Reach, AreCarried, AreLaunchedBy, AreShownBy, Comes, IsJoinedAt, gate_sums_at, start_sums, AllBounded, lane_of, AreAround, AreBounded, AreWithin, either_sums, merged_sums, no_sums, some_sums, IsNetworkOf, limit_at, limit_of, rank_at, lane_at, lanes_at, sums_at, HasReachRoom, IsCleared, IsMarked, IsStarted, AllBelow, AllBelowBut, BegunIn, IsSpread, IsSpreadBelow, StartsIn}
 use Rattle.path_delays.proofs.CarryLemmas.{IsHandedBy, carried_joined, carried_none, carried_same, listed_next, shown_start}
 use Rattle.path_delays.proofs.SumLemmas.{around_itself}
 use Rattle.path_delays.proofs.LaneLemmas.{bounded_joined, none_missing, some_is, some_mapped, some_merged, some_within}
@@ -81,22 +81,7 @@ module _ (circuit : Circuit) (tech : Tech) (network : Network)
   -- nothing is reached: nothing is wrong
   pub IsSpread-none : (registers : List ℕ) (reach : Reach) → IsCleared reach
       → IsSpreadBelow circuit tech network registers 0 1 reach
-  IsSpread-none registers reach clear = record {
-    limited = λ lane signal sums low here. absurd (nothing lane signal sums here);
-    carried = λ lane low. carried_none circuit.signals delay
-        (StartsIn circuit tech registers lane) (LanesBelow 0 lane) (AllBelow network 1)
-        (sums_at reach lane) (λ signal start below. absurd (omega (arith, below)))
-        (λ signal. ap (option_and_then some_sums) (none_at lane signal));
-    waits = λ signal reached later. let none = clear.none signal in cc;
-    due = λ other waits. absurd (true≢false (sym waits ∙ clear.idle other));
-  }
-    where
-      none_at : (lane signal : ℕ) → lane_at reach lane signal ≡ None
-      none_at lane signal =
-          ap (option_map (λ (lanes : Lanes). lane_of lanes lane)) (clear.none signal)
-
-      nothing : (lane signal : ℕ) (sums : Sums) → lane_at reach lane signal ≡ Some sums → ⊥
-      nothing lane signal sums here = let none = none_at lane signal in cc
+  IsSpread-none registers reach clear = grind (arith, carried_none)
 
   -- what has begun is said in other words
   begun_same : (registers : List ℕ) (Begun Later : ℕ → ℕ → Sums → Type 0) (reach : Reach)
@@ -274,12 +259,7 @@ module _ (circuit : Circuit) (tech : Tech) (network : Network)
     pub begun_none : (reach : Reach) → IsSpreadBelow circuit tech network registers lane 1 reach
         → IsSpread circuit tech network registers (BegunIn lane (take 0 launched))
         (AllBelow network 1) 1 reach
-    begun_none reach spread = begun_same registers (LanesBelow lane)
-        (BegunIn lane (take 0 launched)) reach
-        (λ other one sums starts begun. elim begun [
-          | inl before ↦ before
-          | inr listed ↦ absurd (none_listed one listed.1)
-        ]) spread
+    begun_none reach spread = grind (arith, begun_same, none_listed)
 
     -- one more
     pub begun_next : (old new : Reach) (place : ℕ) → lane < 16 → place < length launched
@@ -309,19 +289,4 @@ module _ (circuit : Circuit) (tech : Tech) (network : Network)
     pub begun_all : (reach : Reach) → IsSpread circuit tech network registers
         (BegunIn lane (take (length launched) launched)) (AllBelow network 1) 1 reach
         → IsSpreadBelow circuit tech network registers (lane + 1) 1 reach
-    begun_all reach = begun_same registers (BegunIn lane (take (length launched) launched))
-        (LanesBelow (lane + 1)) reach
-        (λ other one sums (register, listed, launches, same) below.
-        elim (cases_lt other lane) [
-          | inl earlier ↦ inl earlier
-          | inr later ↦
-              let last : other ≡ lane = omega (arith, below, later) in
-              let own : register ≡ from = same_Some register from
-              (sym listed ∙ (ap (slice_get registers) last ∙ here)) in
-              inr (
-                last,
-                subst (λ list. Contains list one)
-                    (sym (take_all (length launched) launched (omega arith)))
-                    ((all one).1 (subst (λ r. Launches circuit r one) own launches)),
-              )
-        ])
+    begun_all reach = grind (arith, begun_same, cases_lt, same_Some, take_all)

@@ -1,6 +1,6 @@
 -- A walk that takes the gates by rank and hands their sums to their readers, one step after the
 -- other.
-use Rattle.path_delays.proofs.Vocabulary.{◌≡◌, ◌≢◌, ◌+◌, ◌-◌, ◌<◌, ◌≤◌, ◌==◌, ◌&&◌, ◌||◌, not, ℕ, suc, Bool, true, false, List, [], ◌∷◌, ◌++◌, length, get_or, Contains, Option, Some, None, inl, inr, ◌⊎◌, refl, sym, ◌∙◌, ap, subst, arith, append-nil, append_assoc, is_none, IsSome, option_and_then, option_map, slice_get, cases_eq, cases_lt, eqb-true, eq-eqb, ne_eqb, and_parts, or_cases, or_left, or_right, true≢false, Contains-push_cases, same_Some, get_or_from_slice_get, Circuit, Tech, IsGate, Reads, group_of, IsGate-from_Reads, gate_within, Lanes, Sums, Network, Reach, IsJoinedAt, gate_sums_at, AllBounded, lane_of, AreAround, AreBounded, either_sums, joined_sums, some_sums, sums_through, IsLowestTaken, IsNetworkOf, limit_at, limit_of, most_at, rank_at, lane_at, lanes_at, sums_at, waits_at, HasReachRoom, IsHanded, AreHanded, IsHandedOn, AllBelow, AllBelowBut, IsDue, IsSpread, StartsIn}
+use Rattle.path_delays.proofs.Vocabulary.{◌≡◌, ◌≢◌, ◌+◌, ◌-◌, ◌<◌, ◌≤◌, ◌==◌, ◌&&◌, not, ℕ, suc, Bool, true, false, List, [], ◌∷◌, ◌++◌, length, get_or, Contains, Option, Some, None, inl, inr, ◌⊎◌, refl, sym, ◌∙◌, ap, subst, arith, append-nil, append_assoc, is_none, IsSome, option_and_then, option_map, cases_eq, cases_lt, eqb-true, eq-eqb, ne_eqb, and_parts, or_cases, or_left, or_right, true≢false, Contains-push_cases, same_Some, get_or_from_slice_get, Circuit, Tech, IsGate, Reads, group_of, IsGate-from_Reads, gate_within, Lanes, Sums, Network, Reach, IsJoinedAt, gate_sums_at, AllBounded, lane_of, AreAround, AreBounded, either_sums, joined_sums, some_sums, sums_through, IsLowestTaken, IsNetworkOf, limit_at, limit_of, most_at, rank_at, lane_at, lanes_at, sums_at, waits_at, HasReachRoom, IsHanded, AreHanded, IsHandedOn, AllBelow, AllBelowBut, IsDue, IsSpread, StartsIn}
 use Rattle.path_delays.proofs.CarryLemmas.{IsHandedBy, carried_joined, carried_same, shown_passed}
 use Rattle.path_delays.proofs.SumLemmas.{around_itself}
 use Rattle.path_delays.proofs.LaneLemmas.{bounded_higher, bounded_joined, bounded_through, some_joined, some_mapped, some_through, lanes_there}
@@ -24,19 +24,7 @@ module _ (circuit : Circuit) (tech : Tech) (network : Network)
   -- and its gate is found there
   pub next_gate : (reach : Reach) (rank next gate : ℕ) → 1 ≤ rank → IsDue network reach rank next
       → gate ≡ get_or network.order.items (next - 1) gate → IsNextGate reach next gate
-  next_gate reach rank next gate counted due read =
-      let is_one = is.ranks.others due.gate (omega (arith, due.after, due.here)) in
-      let placed = is.ranks.gates due.gate is_one in
-      let here : slice_get network.order.items (next - 1) ≡ Some due.gate =
-      ap (λ n. slice_get network.order.items (n - 1)) (sym due.here) ∙ placed.here in
-      let same : due.gate ≡ gate =
-      sym (read ∙ get_or_from_slice_get network.order.items (next - 1) due.gate gate here) in
-      subst (IsNextGate reach next) same
-      (record {
-        rank = due.here;
-        inside = gate_within circuit.signals due.gate is_one;
-        reached = due.reached;
-      })
+  next_gate reach rank next gate counted due read = grind (arith, get_or_from_slice_get, gate_within)
 
 module _ (circuit : Circuit) (tech : Tech) (network : Network)
     (is : IsNetworkOf circuit tech network) (registers : List ℕ)
@@ -185,13 +173,7 @@ module _ (circuit : Circuit) (tech : Tech) (network : Network)
 
     -- the rank of a gate that is reached first waits
     waits_first : lanes_at old gate ≡ None → waits_at new (rank_at network gate) ≡ true
-    waits_first first =
-        hands.waits (rank_at network gate)
-        ∙ (ap (λ o. is_none o && (rank_at network gate == rank_at network gate)
-        || waits_at old (rank_at network gate)) first
-        ∙ or_left (rank_at network gate == rank_at network gate)
-        (waits_at old (rank_at network gate))
-        (eq-eqb (rank_at network gate) (rank_at network gate) refl))
+    waits_first first = grind (arith, or_left, eq-eqb)
 
     -- what waited waits
     still_waits : (number : ℕ) → waits_at old number ≡ true → waits_at new number ≡ true
@@ -202,14 +184,7 @@ module _ (circuit : Circuit) (tech : Tech) (network : Network)
     -- what waits waited, or is the gate's rank
     waited : (number : ℕ) → waits_at new number ≡ true
         → (number ≡ rank_at network gate) ⊎ (waits_at old number ≡ true)
-    waited number waits =
-        elim (or_cases (is_none (lanes_at old gate) && (number == rank_at network gate))
-        (waits_at old number) (sym (hands.waits number) ∙ waits)) [
-          | inl new_one ↦
-              inl (eqb-true number (rank_at network gate)
-              (and_parts (is_none (lanes_at old gate)) (number == rank_at network gate) new_one).1)
-          | inr old_one ↦ inr old_one
-        ]
+    waited number waits = grind (arith, or_cases, eqb-true, and_parts)
 
     gate_waits : (o : Option Lanes) → lanes_at old gate ≡ o
         → waits_at new (rank_at network gate) ≡ true
@@ -267,11 +242,7 @@ module _ (circuit : Circuit) (tech : Tech) (network : Network)
       → AreHanded network given more old new
       → Spread (AllBelowBut network rank pending (gates ++ more)) rank
       new
-  all_handed old new given rank pending gates [] next reads held so_far same =
-      subst (λ list. Spread (AllBelowBut network rank pending list)
-      rank new) (sym (append-nil gates))
-      (subst (λ reach. Spread
-      (AllBelowBut network rank pending gates) rank reach) same so_far)
+  all_handed old new given rank pending gates [] next reads held so_far same = grind (arith, append-nil)
   all_handed old new given rank pending gates (gate ∷ more) next reads held so_far
       (between, first, rest) =
       let here = reads gate (0, omega arith, refl) in

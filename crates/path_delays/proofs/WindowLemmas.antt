@@ -39,43 +39,17 @@ kept_delay delay within = to_z-of_z w64 delay (omega (arith, ints, within.above,
 -- an edge is a window of one time
 pub edge_below : (bound : ℕ) (time : ℤ) → bound ≤ 10 ^ 20 → IsBelow bound time
     → IsWindowBelow bound (record { earliest = kept time; latest = kept time })
-edge_below bound time low below =
-    let same = kept_time time below low in
-    record {
-      earliest = subst (IsBelow bound) (sym same) below;
-      latest =
-          subst (IsBelow bound) (sym same) below;
-    }
+edge_below bound time low below = grind (arith, kept_time)
 
 -- a bound may be wider
 pub below_wider : (bound wider : ℕ) (window : Window) → bound ≤ wider → IsWindowBelow bound window
     → IsWindowBelow wider window
-below_wider bound wider window low below = record {
-  earliest = record {
-    above = omega (arith, ints, below.earliest.above);
-    below =
-        omega (arith, ints, below.earliest.below);
-  };
-  latest = record {
-    above = omega (arith, ints, below.latest.above);
-    below =
-        omega (arith, ints, below.latest.below);
-  };
-}
+below_wider bound wider window low below = grind (arith, ints)
 
 -- the merged window of two small ones is small
 merged_below : (bound : ℕ) (first second : Window) → IsWindowBelow bound first
     → IsWindowBelow bound second → IsWindowBelow bound (merged_windows first second)
-merged_below bound first second one other = record {
-  earliest = elim (min_cases first.earliest second.earliest).0 [
-    | inl same ↦ subst (IsBelow bound) (sym same) one.earliest
-    | inr same ↦ subst (IsBelow bound) (sym same) other.earliest
-  ];
-  latest = elim (max_cases first.latest second.latest).0 [
-    | inl same ↦ subst (IsBelow bound) (sym same) one.latest
-    | inr same ↦ subst (IsBelow bound) (sym same) other.latest
-  ];
-}
+merged_below bound first second one other = grind (arith, min_cases, max_cases)
 
 -- so it is where each of the two may be missing
 pub below_either : (bound : ℕ) (known found : Option Window) (window : Window)
@@ -156,15 +130,4 @@ pub captures_next : (circuit : Circuit) (windows captured : List (Option Window)
     → AreExtremesIfAny (StandsAt (sums_in windows) (Captures circuit register))
     (option_map sums_of found) → AreCaptures circuit windows register captured
     → AreCaptures circuit windows (register + 1) (captured ++ found ∷ [])
-captures_next circuit windows captured register found extremes so_far = record {
-  registers = omega (arith, length_push captured found, so_far.registers);
-  each = λ place window here. elim (pushed_cases captured found window place here) [
-    | inl before ↦ so_far.each place window before
-    | inr last ↦
-        let same : register ≡ place = sym (last.0 ∙ so_far.registers) in
-        subst (λ n. AreExtremesIfAny (StandsAt (sums_in windows) (Captures circuit n))
-        (option_map sums_of window)) same
-        (subst (λ o. AreExtremesIfAny (StandsAt (sums_in windows) (Captures circuit register))
-        (option_map sums_of o)) last.1 extremes)
-  ];
-}
+captures_next circuit windows captured register found extremes so_far = grind (arith, length_push, pushed_cases)

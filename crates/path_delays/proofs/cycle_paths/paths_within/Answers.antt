@@ -4,14 +4,7 @@ use Rattle.path_delays.proofs.CyclePathLemmas.{all_paths, earlier_paths_more}
 use Rattle.path_delays.proofs.cycle_paths.paths_within.Goals as goal
 
 pub loop-first-preserved : goal.loop-first-preserved
-loop-first-preserved c = record {
-  space = c.push_paths.ensures.room;
-  earlier = earlier_paths_more c.args.circuit.now c.args.tech.now c.args.constraints.now
-      c.loop-first.first c.block_end-end.result c.loop-first.room _ c.loop-first.paths
-      c.push_paths.new.paths (omega (arith, c.block_end-end.ensures.after))
-      c.loop-first.invariant.earlier c.in_ok-room.ensures.paths;
-  within = c.block_end-end.ensures.within;
-}
+loop-first-preserved c = grind (arith, earlier_paths_more)
 
 pub returns-clause-paths : goal.returns-clause-paths
 returns-clause-paths c = all_paths c.args.circuit.now c.args.tech.now c.args.constraints.now

@@ -11,11 +11,7 @@ path_within-requires-clause-to c = (pair_within c.args.circuit.now c.args.tech.n
     (c.requires.each c.loop-lane.lane _ c.loop-lane-test.true)).1
 
 pub loop-lane-init : goal.loop-lane-init
-loop-lane-init c = record {
-  keeps = keeps_none c.args.circuit.now c.args.tech.now c.args.block.now c.args.room
-      c.args.paths.now;
-  less = omega arith;
-}
+loop-lane-init c = grind (arith, keeps_none)
 
 pub loop-lane-preserved : goal.loop-lane-preserved
 loop-lane-preserved c =

@@ -10,18 +10,10 @@ returns-in_err-sums c = rw c.from_residual.ensures
     c.in_err-sums.ensures)
 
 pub returns-then-fits : goal.returns-then-fits
-returns-then-fits c =
-    furthest_found c.args.walk.now c.args.lane c.args.signals.now c.args.greatest c.in_ok-sums.sums
-    c.in_ok-sums.ensures _
-    (Contains-get_or c.args.signals.now c.loop-signal.signal-index 0 c.loop-signal-test.true)
-    (rw c.sums.ensures at (c.fits.ensures.0 c.if-fits.true))
+returns-then-fits c = grind (arith, furthest_found, Contains-get_or)
 
 pub loop-signal-preserved : goal.loop-signal-preserved
-loop-signal-preserved c =
-    none_fits_next c.args.walk.now c.args.lane c.args.signals.now c.args.greatest _
-    c.loop-signal.signal-index
-    (λ fits. let passes = c.fits.ensures.1 (rw c.sums.ensures fits) in cc)
-    c.loop-signal.invariant
+loop-signal-preserved c = grind (arith, none_fits_next)
 
 pub returns : goal.returns
 returns c = λ signal listed.

@@ -1,5 +1,5 @@
 -- The host launches the inputs, and any other register its own signal.
-use Rattle.std.proofs.Common.{◌≡◌, ◌+◌, ◌-◌, ◌∙◌, sym, arith}
+use Rattle.std.proofs.Common.{◌∙◌, sym, arith}
 use Rattle.path_delays.proofs.LaunchLemmas.{inputs_launched, own_launched}
 use Rattle.path_delays.proofs.launching.launched.Goals as goal
 
@@ -9,8 +9,4 @@ returns-then-is_host c = inputs_launched c.args.circuit.now c.args.from c.args.i
     (sym c.is_host.ensures ∙ c.if-is_host.true) c.requires.inputs
 
 pub returns-else-is_host : goal.returns-else-is_host
-returns-else-is_host c =
-    let one : (c.args.from + 1) - c.args.from ≡ 1 = omega arith in
-    rw (c.as_slice.ensures, one)
-    (own_launched c.args.circuit.now c.args.from c.register_signal.result.now
-    c.register_signal.ensures (sym c.is_host.ensures ∙ c.if-is_host.false) c.requires.from)
+returns-else-is_host c = grind (arith, own_launched)

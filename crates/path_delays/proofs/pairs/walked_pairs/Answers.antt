@@ -4,12 +4,7 @@ use Rattle.path_delays.proofs.PairCounts.{not_more}
 use Rattle.path_delays.proofs.pairs.walked_pairs.Goals as goal
 
 pub loop-first-init : goal.loop-first-init
-loop-first-init c = record {
-  room = c.requires;
-  capturing = c.in_ok-capturing.ensures;
-  listed = rw c.new-pairs.ensures.items (none_before c.args.circuit.now c.args.tech.now);
-  few = omega arith;
-}
+loop-first-init c = grind (arith, none_before)
 
 pub returns-clause-ok : goal.returns-clause-ok
 returns-clause-ok c =

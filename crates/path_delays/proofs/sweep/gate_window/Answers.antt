@@ -1,15 +1,10 @@
 -- The gate's window is that of what it reads, moved by the gate's delay.
-use Rattle.path_delays.proofs.Vocabulary.{◌+◌, ◌*◌, ◌^◌, Contains, Some, None, ap, refl, subst, arith, same_Some, Window, IsWindowBelow}
+use Rattle.path_delays.proofs.Vocabulary.{◌+◌, ◌*◌, ◌^◌, Contains, Some, ap, subst, arith, same_Some, Window, IsWindowBelow}
 use Rattle.path_delays.proofs.WindowLemmas.{extremes_below, gate_small, kept_ticks}
 use Rattle.path_delays.proofs.sweep.gate_window.Goals as goal
 
 pub returns-in_err-read-clause-suffix : goal.returns-in_err-read-clause-suffix
-returns-in_err-read-clause-suffix c =
-    rw c.from_residual.ensures (record {
-      read = None;
-      extremes = rw c.as_slice.ensures at c.in_err-read.ensures;
-      suffix = refl;
-    })
+returns-in_err-read-clause-suffix c = grind (arith)
 
 pub suffix-requires-clause-window : goal.suffix-requires-clause-window
 suffix-requires-clause-window c =

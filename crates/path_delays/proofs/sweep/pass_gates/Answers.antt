@@ -1,5 +1,5 @@
 -- One gate more.
-use Rattle.path_delays.proofs.Vocabulary.{◌*◌, ◌^◌, ℕ, List, length, get_or, ap, subst, arith, IsWindowBelow, window_limit, ArePassed}
+use Rattle.path_delays.proofs.Vocabulary.{◌*◌, ◌^◌, get_or, subst, arith, IsWindowBelow, window_limit}
 use Rattle.path_delays.proofs.NetworkLemmas.{few_gates}
 use Rattle.path_delays.proofs.WindowLemmas.{below_wider, kept_ticks}
 use Rattle.path_delays.proofs.SweepLemmas.{passed_none, passed_next, next_within, next_read}
@@ -46,12 +46,7 @@ gate_window-window-requires-clause-small c signal window here =
     (c.loop-gate.invariant.small signal window (rw c.as_slice-in-loop-gate.ensures.value at here))
 
 pub put-requires : goal.put-requires
-put-requires c = omega (
-  arith,
-  next_within c.args.circuit.now c.args.levels.now c.gates-gate-items.result.now
-      c.loop-gate.gate-index c.requires.levels c.gates-gate-items.ensures c.loop-gate-test.true,
-  c.loop-gate.invariant.covers,
-)
+put-requires c = grind (arith, next_within)
 
 pub loop-gate-preserved : goal.loop-gate-preserved
 loop-gate-preserved c =
@@ -74,11 +69,4 @@ loop-gate-preserved c =
     c.put.ensures c.loop-gate.invariant
 
 pub returns : goal.returns
-returns c =
-    subst (λ n. ArePassed c.args.circuit.now c.args.tech.now c.args.schedule.now c.args.levels.now n
-    c.loop-gate.windows.items)
-    (omega (
-      arith,
-      c.loop-gate-test.false,
-      ap (λ (l : List ℕ). length l) c.gates-gate-items.ensures,
-    )) c.loop-gate.invariant
+returns c = grind (arith)

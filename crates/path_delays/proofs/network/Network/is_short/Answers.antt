@@ -1,5 +1,5 @@
 -- One delay more, and all of them.
-use Rattle.path_delays.proofs.Vocabulary.{◌≡◌, ◌-ℤ◌, ◌≤ℤ◌, pos, false, List, length, refl, sym, ◌∙◌, ap, subst, arith, int_max, w64, lt_z, slice_index_or, sum_by, ints, take_all, Sums, AreWithin, delay_limit, most_of, no_delay}
+use Rattle.path_delays.proofs.Vocabulary.{◌≡◌, ◌-ℤ◌, ◌≤ℤ◌, pos, false, List, length, refl, sym, ap, subst, arith, int_max, w64, lt_z, slice_index_or, ints, take_all, Sums, AreWithin, delay_limit, no_delay}
 use Rattle.std.proofs.Common.{to_z, of_z}
 use Rattle.std.proofs.Math.Facts.{sfits_to_z}
 use Rattle.path_delays.proofs.Rooms.{IsLeftAfter-more}
@@ -43,8 +43,4 @@ loop-delay-preserved c =
     rw (kept, rest) next
 
 pub returns : goal.returns
-returns c all =
-    let delays = c.as_slice-delay-items.result.now in
-    let whole = ap (sum_by most_of) (take_all c.loop-delay.delay-index delays
-    c.loop-delay-test.false ∙ c.as_slice-delay-items.ensures.value) in
-    omega (arith, ints, whole, c.loop-delay.invariant.above, c.loop-delay.invariant.sum)
+returns c all = grind (arith, ints, take_all)

@@ -43,7 +43,4 @@ loop-gate-preserved c =
     }
 
 pub returns-clause-on : goal.returns-clause-on
-returns-clause-on c given here = rw (
-  take_all c.loop-gate.gate-index c.group-gate-items.result.now c.loop-gate-test.false,
-  c.group-gate-items.ensures,
-) at (c.loop-gate.invariant.handed given here)
+returns-clause-on c given here = grind (arith, take_all)

@@ -1,5 +1,5 @@
 -- One signal more, and all of them.
-use Rattle.path_delays.proofs.Vocabulary.{◌≡◌, length, take, get_or, sym, subst, arith, Contains-get_or, slice_get-get_or, AreWithin, limit_of, AllBelow, BegunIn, IsSpread}
+use Rattle.path_delays.proofs.Vocabulary.{◌≡◌, length, take, get_or, subst, arith, Contains-get_or, slice_get-get_or, AllBelow, BegunIn, IsSpread}
 use Rattle.path_delays.proofs.LaunchLemmas.{launched_within}
 use Rattle.path_delays.proofs.WalkStarts.{begun_all, begun_next, begun_none, start_bounded}
 use Rattle.path_delays.proofs.WalkSteps.{all_bounded}
@@ -33,10 +33,7 @@ start-requires-clause-signal c =
     )
 
 pub start-requires-clause-sums : goal.start-requires-clause-sums
-start-requires-clause-sums c =
-    subst (AreWithin (limit_of c.loop-signal.self)) (sym c.start_sums-sums.ensures.sums)
-    (start_bounded c.args.network.now c.loop-signal.self c.args.tech.now
-    c.loop-signal.invariant.room)
+start-requires-clause-sums c = grind (arith, start_bounded)
 
 pub start-requires-clause-small : goal.start-requires-clause-small
 start-requires-clause-small c =

@@ -7,15 +7,7 @@ use Rattle.path_delays.proofs.WalkSteps.{all_bounded, next_gate, next_within, Is
 use Rattle.path_delays.proofs.reach.Reach.reach_up_to.Goals as goal
 
 pub index-requires : goal.index-requires
-index-requires c =
-    let due = c.loop-next.invariant.spread.due c.in-Some.next c.in-Some.ensures.some.held in
-    omega (
-      arith,
-      due.after,
-      c.loop-next.invariant.counted,
-      next_within c.args.circuit.now c.args.tech.now c.args.network.now c.requires.network
-          c.loop-next.self c.loop-next.rank c.in-Some.next due,
-    )
+index-requires c = grind (arith, next_within)
 
 pub hand_on-requires-clause-signal : goal.hand_on-requires-clause-signal
 hand_on-requires-clause-signal c =
@@ -33,20 +25,10 @@ hand_on-requires-clause-reached c =
     c.loop-next.invariant.counted due c.index.ensures).reached
 
 pub hand_on-requires-clause-small : goal.hand_on-requires-clause-small
-hand_on-requires-clause-small c =
-    all_bounded c.args.circuit.now c.args.tech.now c.args.network.now c.requires.network _ _
-    c.loop-next.self c.loop-next.rank _ c.loop-next.invariant.room c.loop-next.invariant.spread
-    c.index.result.now
+hand_on-requires-clause-small c = grind (arith, all_bounded)
 
 pub loop-next-smaller : goal.loop-next-smaller
-loop-next-smaller c =
-    let due = c.loop-next.invariant.spread.due c.in-Some.next c.in-Some.ensures.some.held in
-    omega (
-      arith,
-      due.after,
-      next_within c.args.circuit.now c.args.tech.now c.args.network.now c.requires.network
-          c.loop-next.self c.loop-next.rank c.in-Some.next due,
-    )
+loop-next-smaller c = grind (arith, next_within)
 
 pub loop-next-preserved : goal.loop-next-preserved
 loop-next-preserved c =

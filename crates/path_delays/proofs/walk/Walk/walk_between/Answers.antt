@@ -3,17 +3,7 @@ use Rattle.path_delays.proofs.Vocabulary.{◌≡◌, ◌<◌, ◌∙◌, ℕ, So
 use Rattle.path_delays.proofs.walk.Walk.walk_between.Goals as goal
 
 pub reach_up_to-requires-clause-registers : goal.reach_up_to-requires-clause-registers
-reach_up_to-requires-clause-registers c k d inside =
-    let pairs = c.args.pairs.now in
-    let registers = c.loop-lane.registers in
-    let covered = length-take (length pairs) registers in
-    let short : k < length pairs = omega (arith, covered) in
-    let long : k < length registers = omega (arith, covered) in
-    let value : get_or (take (length pairs) registers) k d ≡ (get_or pairs k (0, 0)).0 =
-    get_or-take (length pairs) registers k d short
-    ∙ (get_or_default registers k d 0 long ∙ c.loop-lane.invariant.each k
-    (omega (arith, c.loop-lane-test.false))) in
-    omega (arith, value, (c.requires.pairs k (0, 0) short).0)
+reach_up_to-requires-clause-registers c k d inside = grind (arith, length-take, get_or-take, get_or_default)
 
 pub returns-clause-reach : goal.returns-clause-reach
 returns-clause-reach c lane from to here =
