@@ -24,18 +24,15 @@ slice_get-set_other (x ∷ xs) (suc i) (suc j) y apart =
 
 -- the entry that is set
 slice_get-set_same : (xs : List ℕ) (i y : ℕ) → i < length xs → slice_get (set xs i y) i ≡ Some y
-slice_get-set_same xs i y within =
-    slice_get-get_or (set xs i y) i 0 (omega (arith, length-set xs i y))
-    ∙ ap Some (get_or-set_same xs i y 0 within)
+slice_get-set_same xs i y within = slice_get-get_or
+    (set xs i y) i 0 (omega (arith, length-set xs i y)) ∙ ap Some (get_or-set_same xs i y 0 within)
 
 -- setting a value and a parent is such a raise
 pub IsRaise-set : (constraints : List Constraint) (gains : Gains) (place : ℕ)
-    (constraint : Constraint) (values : List ℤ) (parents : List ℕ)
-    → slice_get constraints place ≡ Some constraint → constraint.head < length values
-    → constraint.head < length parents → GivesMore gains values constraint
-    → IsRaise constraints gains constraint values parents
-    (set values constraint.head (offer_of gains values constraint))
-    (set parents constraint.head place)
+    (constraint : Constraint) (values : List ℤ) (parents : List ℕ) → slice_get constraints place
+    ≡ Some constraint → constraint.head < length values → constraint.head < length parents
+    → GivesMore gains values constraint → IsRaise constraints gains constraint values parents (set
+    values constraint.head (offer_of gains values constraint)) (set parents constraint.head place)
 IsRaise-set constraints gains place constraint values parents at within parent_within more =
     record {
       more = more;
@@ -112,20 +109,17 @@ module _ {constraints : List Constraint} {gains : Gains} {constraint : Constrain
     is_constraint parent here = same_Some constraint parent (sym raise.parent ∙ here)
 
     -- by the values before, no register has more than its parent gives it
-    gave : (register : ℕ) (parent : Constraint)
-        → parent_of constraints later_parents register ≡ Some parent
-        → (value_of values register <ℤ (value_of values parent.tail +ℤ gain_of gains parent))
-        ⊎ ((parent_of constraints parents register ≡ Some parent)
+    gave : (register : ℕ) (parent : Constraint) → parent_of constraints later_parents register
+        ≡ Some parent → (value_of values register <ℤ (value_of values parent.tail
+        +ℤ gain_of gains parent)) ⊎ ((parent_of constraints parents register ≡ Some parent)
         × (value_of values register ≤ℤ (value_of values parent.tail +ℤ gain_of gains parent)))
     gave register parent here = elim (cases_eq register constraint.head) [
       | inl same ↦
           let at_head : parent_of constraints later_parents constraint.head ≡ Some parent =
           subst (λ r. parent_of constraints later_parents r ≡ Some parent) same here in
-          inl (subst (λ r. value_of values r
-          <ℤ (value_of values parent.tail +ℤ gain_of gains parent)) (sym same)
-          (subst (λ (c : Constraint). value_of values constraint.head
-          <ℤ (value_of values c.tail +ℤ gain_of gains c)) (is_constraint parent at_head)
-          raise.more))
+          inl (subst (λ r. value_of values r <ℤ (value_of values parent.tail +ℤ gain_of
+          gains parent)) (sym same) (subst (λ (c : Constraint). value_of values constraint.head <ℤ
+          (value_of values c.tail +ℤ gain_of gains c)) (is_constraint parent at_head) raise.more))
       | inr other ↦
           let was : parent_of constraints parents register ≡ Some parent =
           sym (raise.kept register other) ∙ here in
@@ -133,31 +127,27 @@ module _ {constraints : List Constraint} {gains : Gains} {constraint : Constrain
     ]
 
     -- whoever climbs has gained, or climbs parents of before
-    climb_gains : (from : ℕ) (above : List Constraint) (to : ℕ)
-        → Climbs constraints later_parents from above to
-        → (value_of values from <ℤ (value_of values to +ℤ total_gain gains above))
+    climb_gains : (from : ℕ) (above : List Constraint) (to : ℕ) → Climbs constraints later_parents
+        from above to → (value_of values from <ℤ (value_of values to +ℤ total_gain gains above))
         ⊎ (Climbs constraints parents from above to
         × (value_of values from ≤ℤ (value_of values to +ℤ total_gain gains above)))
-    climb_gains from [] to same =
-        inr (
-          same,
-          subst (λ r. value_of values from ≤ℤ (value_of values r +ℤ pos 0)) same
-              (at_most_itself (value_of values from)),
-        )
+    climb_gains from [] to same = inr (
+      same,
+      subst (λ r. value_of values from ≤ℤ (value_of values r +ℤ pos 0)) same
+          (at_most_itself (value_of values from)),
+    )
     climb_gains from (parent ∷ above) to (here, climb) =
         joined (gave from parent here) (climb_gains parent.tail above to climb)
       where
         -- of the first step and the rest
         joined : ((value_of values from <ℤ (value_of values parent.tail +ℤ gain_of gains parent))
-            ⊎ ((parent_of constraints parents from ≡ Some parent)
-            × (value_of values from ≤ℤ (value_of values parent.tail +ℤ gain_of gains parent))))
-            → ((value_of values parent.tail <ℤ (value_of values to +ℤ total_gain gains above))
-            ⊎ (Climbs constraints parents parent.tail above to
-            × (value_of values parent.tail ≤ℤ (value_of values to +ℤ total_gain gains above))))
-            → (value_of values from <ℤ (value_of values to +ℤ total_gain gains (parent ∷ above)))
-            ⊎ (Climbs constraints parents from (parent ∷ above) to
-            × (value_of values from
-            ≤ℤ (value_of values to +ℤ total_gain gains (parent ∷ above))))
+            ⊎ ((parent_of constraints parents from ≡ Some parent) × (value_of values from
+            ≤ℤ (value_of values parent.tail +ℤ gain_of gains parent)))) → ((value_of values
+            parent.tail <ℤ (value_of values to +ℤ total_gain gains above)) ⊎ (Climbs constraints
+            parents parent.tail above to × (value_of values parent.tail ≤ℤ (value_of values to +ℤ
+            total_gain gains above)))) → (value_of values from <ℤ (value_of values to +ℤ total_gain
+            gains (parent ∷ above))) ⊎ (Climbs constraints parents from (parent ∷ above) to
+            × (value_of values from ≤ℤ (value_of values to +ℤ total_gain gains (parent ∷ above))))
         joined (inl less) (inl rest) = inl (less_first _ _ _ _ _ less (weaker _ _ rest))
         joined (inl less) (inr rest) = inl (less_first _ _ _ _ _ less rest.1)
         joined (inr first) (inl rest) = inl (less_then _ _ _ _ _ first.1 rest)
@@ -171,10 +161,8 @@ module _ {constraints : List Constraint} {gains : Gains} {constraint : Constrain
         heads : (register : ℕ) (parent : Constraint)
             → parent_of constraints later_parents register ≡ Some parent → parent.head ≡ register
         heads register parent here = elim (cases_eq register constraint.head) [
-          | inl same ↦ ap (λ (c : Constraint). c.head)
-              (sym (is_constraint parent
-              (subst (λ r. parent_of constraints later_parents r ≡ Some parent) same here)))
-              ∙ sym same
+          | inl same ↦ ap (λ (c : Constraint). c.head) (sym (is_constraint parent (subst
+              (λ r. parent_of constraints later_parents r ≡ Some parent) same here))) ∙ sym same
           | inr other ↦ before.heads register parent (sym (raise.kept register other) ∙ here)
         ]
 
@@ -187,19 +175,16 @@ module _ {constraints : List Constraint} {gains : Gains} {constraint : Constrain
               let is = is_constraint parent
               (subst (λ r. parent_of constraints later_parents r ≡ Some parent) same here) in
               subst (λ r. value_of later r ≤ℤ (value_of later parent.tail +ℤ gain_of gains parent))
-              (sym same)
-              (subst (λ (c : Constraint). value_of later constraint.head
-              ≤ℤ (value_of later c.tail +ℤ gain_of gains c)) is
-              (offer_below _ _ _ _ _ refl raise.here (rises constraint.tail)))
-          | inr other ↦ below_sum _ _ _ _ _
-              (before.given register parent (sym (raise.kept register other) ∙ here))
-              (raise.others register other) (rises parent.tail)
+              (sym same) (subst (λ (c : Constraint). value_of later constraint.head
+              ≤ℤ (value_of later c.tail +ℤ gain_of gains c))
+              is (offer_below _ _ _ _ _ refl raise.here (rises constraint.tail)))
+          | inr other ↦ below_sum _ _ _ _ _ (before.given register parent (sym
+              (raise.kept register other) ∙ here)) (raise.others register other) (rises parent.tail)
         ]
 
         -- whoever comes back has gained
-        rings : (register : ℕ) (above : List Constraint) → 0 < length above
-            → Climbs constraints later_parents register above register
-            → pos 0 <ℤ total_gain gains above
+        rings : (register : ℕ) (above : List Constraint) → 0 < length above → Climbs
+            constraints later_parents register above register → pos 0 <ℤ total_gain gains above
         rings register above some climb = elim (climb_gains register above register climb) [
           | inl less ↦ above_none (value_of values register) (total_gain gains above) less
           | inr old ↦ before.rings register above some old.0

@@ -40,9 +40,8 @@ module _ {constraints : List Constraint} {gains : Gains} {sweep : ℕ} {Seen : �
     -- the constraint at a place
     is_constraint : (other : ℕ) (it : Constraint) → other ≡ place
         → slice_get constraints other ≡ Some it → constraint ≡ it
-    is_constraint other it same there =
-        same_Some constraint it
-        (sym here ∙ subst (λ p. slice_get constraints p ≡ Some it) same there)
+    is_constraint other it same there = same_Some
+        constraint it (sym here ∙ subst (λ p. slice_get constraints p ≡ Some it) same there)
 
     -- a constraint that gives no more is seen
     pub IsSweeping-left : offer_of gains values constraint ≤ℤ value_of values constraint.head
@@ -55,8 +54,7 @@ module _ {constraints : List Constraint} {gains : Gains} {sweep : ℕ} {Seen : �
       waits = before.waits;
       seen = λ other it later there more. elim (seen other later) [
         | inl was ↦ before.seen other it was there more
-        | inr same ↦ absurd (not_both _ _ met
-            (subst (λ (c : Constraint). GivesMore gains values c)
+        | inr same ↦ absurd (not_both _ _ met (subst (λ (c : Constraint). GivesMore gains values c)
             (sym (is_constraint other it same there)) more))
       ];
       above = before.above;
@@ -117,9 +115,8 @@ module _ {constraints : List Constraint} {gains : Gains} {sweep : ℕ} {Seen : �
       ]
 
       -- what is seen and gives more has a tail that changed in this sweep
-      seen_now : (other : ℕ) (it : Constraint) → Later other
-          → slice_get constraints other ≡ Some it
-          → GivesMore gains later it → sweep ≤ last_now it.tail
+      seen_now : (other : ℕ) (it : Constraint) → Later other → slice_get constraints other
+          ≡ Some it → GivesMore gains later it → sweep ≤ last_now it.tail
       seen_now other it is_seen there more = elim (cases_eq it.tail constraint.head) [
         | inl same ↦ omega (arith, same_last it.tail same)
         | inr apart ↦ by_place apart (seen other is_seen)
@@ -190,10 +187,9 @@ IsReady-first constraints gains values parents none = record {
 }
 
 -- before the next sweep
-pub IsReady-next : (constraints : List Constraint) (gains : Gains) (sweep register : ℕ)
-    (values : List ℤ) (parents : List ℕ)
-    → IsSwept constraints gains sweep (Some register) values parents
-    → IsReady constraints gains (sweep + 1) values parents
+pub IsReady-next : (constraints : List Constraint) (gains : Gains)
+    (sweep register : ℕ) (values : List ℤ) (parents : List ℕ) → IsSwept constraints gains
+    sweep (Some register) values parents → IsReady constraints gains (sweep + 1) values parents
 IsReady-next constraints gains sweep register values parents swept = record {
   are_parents = swept.are_parents;
   last = swept.last;
@@ -209,14 +205,12 @@ met_all : (constraints : List Constraint) (gains : Gains) (sweep : ℕ) (values 
     (parents : List ℕ) → IsSwept constraints gains sweep None values parents → (place : ℕ)
     (constraint : Constraint) → slice_get constraints place ≡ Some constraint
     → offer_of gains values constraint ≤ℤ value_of values constraint.head
-met_all constraints gains sweep values parents swept place constraint here =
-    by_lt_z (value_of values constraint.head) (offer_of gains values constraint)
-    (λ more. absurd (omega (
+met_all constraints gains sweep values parents swept place constraint here = by_lt_z
+    (value_of values constraint.head) (offer_of gains values constraint) (λ more. absurd (omega (
       arith,
       swept.seen place constraint tt here more,
       swept.changes constraint.tail,
-    )))
-    (λ met. met)
+    ))) (λ met. met)
 
 -- what is met is satisfied, the gain taken once
 met_once : (from gain to : ℤ) → (from +ℤ gain) ≤ℤ to → (from +ℤ (pos 1 *ℤ gain)) ≤ℤ to

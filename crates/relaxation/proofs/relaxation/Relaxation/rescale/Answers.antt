@@ -7,7 +7,6 @@ use Rattle.relaxation.proofs.relaxation.Relaxation.rescale.Goals as goal
 pub loop-register-preserved : goal.loop-register-preserved
 loop-register-preserved c =
     let now = c.loop-register.self in
-    IsPrepared-more c.loop-register.register c.rescaled.result _ now _
-    (ap (set now.values.items c.loop-register.register)
-    (to_z-of_z w128 c.rescaled.result (omega (arith, ints)))) refl c.rescaled.ensures
-    c.loop-register.invariant
+    IsPrepared-more c.loop-register.register
+    c.rescaled.result _ now _ (ap (set now.values.items c.loop-register.register) (to_z-of_z
+    w128 c.rescaled.result (omega (arith, ints)))) refl c.rescaled.ensures c.loop-register.invariant
