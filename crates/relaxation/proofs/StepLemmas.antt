@@ -204,18 +204,6 @@ HasRisen-one {constraints} {gains} {place} answer {old} {new} room within capped
             room.entries;
         small = small_look gains old new smalls within capped room.small answer seen;
       };
-      raised = raised;
+      registers = raised.registers;
+      raised = λ begun before. AreRaised-more before raised;
     }
-
-module _ {constraints : List Constraint} {gains : Gains} where
-  -- nothing has risen yet
-  pub HasRisen-none : {relaxation : Relaxation} → HasRoom constraints relaxation
-      → HasRisen constraints gains relaxation relaxation
-  HasRisen-none {relaxation} room =
-      record { room = room; raised = AreRaised-none relaxation.values.items }
-
-  -- and on
-  pub HasRisen-more : {old now later : Relaxation} → HasRisen constraints gains old now
-      → HasRisen constraints gains now later → HasRisen constraints gains old later
-  HasRisen-more first second =
-      record { room = second.room; raised = AreRaised-more first.raised second.raised }

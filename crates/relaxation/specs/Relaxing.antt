@@ -20,11 +20,13 @@ pub record HasRoom (constraints : List Constraint) (relaxation : Relaxation) : T
   pub entries : HasEntries constraints relaxation
   pub small : All (IsBelow (2 ^ 94)) relaxation.values.items
 
--- the values have risen, with room still
+-- the values have risen further from where they began, with room still
 pub record HasRisen (constraints : List Constraint) (gains : Gains) (old new : Relaxation) : Type 0
   where
     pub room : HasRoom constraints new
-    pub raised : AreRaised constraints gains old.values.items new.values.items
+    pub registers : length new.values.items ≡ length old.values.items
+    pub raised : (begun : List ℤ) → AreRaised constraints gains begun old.values.items
+        → AreRaised constraints gains begun new.values.items
 
 -- what the constraint gives its head
 abbrev pub offer_of : Gains → List ℤ → Constraint → ℤ
