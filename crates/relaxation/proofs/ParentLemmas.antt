@@ -46,51 +46,6 @@ IsRaise-set constraints gains place constraint values parents at within parent_w
           (slice_get-set_other parents constraint.head register place apart);
     }
 
--- two steps that don't lose don't lose together
-not_more : (from via gain to total : ℤ) → from ≤ℤ (via +ℤ gain) → via ≤ℤ (to +ℤ total)
-    → from ≤ℤ (to +ℤ (gain +ℤ total))
-not_more from via gain to total first second = omega (arith, ints)
-
--- where the first of two gains, both do
-less_first : (from via gain to total : ℤ) → from <ℤ (via +ℤ gain) → via ≤ℤ (to +ℤ total)
-    → from <ℤ (to +ℤ (gain +ℤ total))
-less_first from via gain to total first second = omega (arith, ints)
-
--- and so they do where the second gains
-less_then : (from via gain to total : ℤ) → from ≤ℤ (via +ℤ gain) → via <ℤ (to +ℤ total)
-    → from <ℤ (to +ℤ (gain +ℤ total))
-less_then from via gain to total first second = omega (arith, ints)
-
--- no step loses nothing
-at_most_itself : (z : ℤ) → z ≤ℤ (z +ℤ pos 0)
-at_most_itself z = omega (arith, ints)
-
--- who comes back with more than nothing has gained
-above_none : (z total : ℤ) → z <ℤ (z +ℤ total) → pos 0 <ℤ total
-above_none z total less = omega (arith, ints)
-
--- less is at most
-weaker : (a b : ℤ) → a <ℤ b → a ≤ℤ b
-weaker a b less = omega (arith, ints)
-
--- a value that stays isn't less
-not_less : (old new : ℤ) → new ≡ old → old ≤ℤ new
-not_less old new same = omega (arith, ints)
-
--- a value that is raised isn't less
-below_offer : (old new offer : ℤ) → old <ℤ offer → new ≡ offer → old ≤ℤ new
-below_offer old new offer more here = omega (arith, ints)
-
--- what was given before is given still, as the tail only rises
-below_sum : (value later from to gain : ℤ) → value ≤ℤ (from +ℤ gain) → later ≡ value → from ≤ℤ to
-    → later ≤ℤ (to +ℤ gain)
-below_sum value later from to gain given same rises = omega (arith, ints)
-
--- what was offered is given still
-offer_below : (offer later from to gain : ℤ) → offer ≡ from +ℤ gain → later ≡ offer → from ≤ℤ to
-    → later ≤ℤ (to +ℤ gain)
-offer_below offer later from to gain is same rises = omega (arith, ints)
-
 module _ {constraints : List Constraint} {gains : Gains} {constraint : Constraint} {values : List ℤ}
     {parents : List ℕ} {later : List ℤ} {later_parents : List ℕ}
     (raise : IsRaise constraints gains constraint values parents later later_parents) where
@@ -98,8 +53,8 @@ module _ {constraints : List Constraint} {gains : Gains} {constraint : Constrain
   pub rises : (register : ℕ) → value_of values register ≤ℤ value_of later register
   rises register = elim (cases_eq register constraint.head) [
     | inl same ↦ subst (λ r. value_of values r ≤ℤ value_of later r) (sym same)
-        (below_offer _ _ _ raise.more raise.here)
-    | inr other ↦ not_less _ _ (raise.others register other)
+        (omega (arith, ints, raise.more, raise.here))
+    | inr other ↦ omega (arith, ints, raise.others register other)
   ]
 
   module _ (before : AreParents constraints gains values parents) where
@@ -134,7 +89,7 @@ module _ {constraints : List Constraint} {gains : Gains} {constraint : Constrain
     climb_gains from [] to same = inr (
       same,
       subst (λ r. value_of values from ≤ℤ (value_of values r +ℤ pos 0)) same
-          (at_most_itself (value_of values from)),
+          (omega (arith, ints)),
     )
     climb_gains from (parent ∷ above) to (here, climb) =
         joined (gave from parent here) (climb_gains parent.tail above to climb)
@@ -148,10 +103,10 @@ module _ {constraints : List Constraint} {gains : Gains} {constraint : Constrain
             total_gain gains above)))) → (value_of values from <ℤ (value_of values to +ℤ total_gain
             gains (parent ∷ above))) ⊎ (Climbs constraints parents from (parent ∷ above) to
             × (value_of values from ≤ℤ (value_of values to +ℤ total_gain gains (parent ∷ above))))
-        joined (inl less) (inl rest) = inl (less_first _ _ _ _ _ less (weaker _ _ rest))
-        joined (inl less) (inr rest) = inl (less_first _ _ _ _ _ less rest.1)
-        joined (inr first) (inl rest) = inl (less_then _ _ _ _ _ first.1 rest)
-        joined (inr first) (inr rest) = inr ((first.0, rest.0), not_more _ _ _ _ _ first.1 rest.1)
+        joined (inl less) (inl rest) = inl (omega (arith, ints))
+        joined (inl less) (inr rest) = inl (omega (arith, ints, rest.1))
+        joined (inr first) (inl rest) = inl (omega (arith, ints, first.1))
+        joined (inr first) (inr rest) = inr ((first.0, rest.0), omega (arith, ints, first.1, rest.1))
 
     -- the parents are parents still
     pub AreParents-raise : AreParents constraints gains later later_parents
@@ -177,16 +132,21 @@ module _ {constraints : List Constraint} {gains : Gains} {constraint : Constrain
               subst (λ r. value_of later r ≤ℤ (value_of later parent.tail +ℤ gain_of gains parent))
               (sym same) (subst (λ (c : Constraint). value_of later constraint.head
               ≤ℤ (value_of later c.tail +ℤ gain_of gains c))
-              is (offer_below _ _ _ _ _ refl raise.here (rises constraint.tail)))
-          | inr other ↦ below_sum _ _ _ _ _ (before.given register parent (sym
-              (raise.kept register other) ∙ here)) (raise.others register other) (rises parent.tail)
+              is (omega (arith, ints, raise.here, rises constraint.tail)))
+          | inr other ↦ omega (
+            arith,
+            ints,
+            before.given register parent (sym (raise.kept register other) ∙ here),
+            raise.others register other,
+            rises parent.tail,
+          )
         ]
 
         -- whoever comes back has gained
         rings : (register : ℕ) (above : List Constraint) → 0 < length above → Climbs
             constraints later_parents register above register → pos 0 <ℤ total_gain gains above
         rings register above some climb = elim (climb_gains register above register climb) [
-          | inl less ↦ above_none (value_of values register) (total_gain gains above) less
+          | inl less ↦ omega (arith, ints, less)
           | inr old ↦ before.rings register above some old.0
         ]
 

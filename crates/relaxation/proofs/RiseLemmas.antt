@@ -1,8 +1,9 @@
 -- How far raises take values: one raise, and raises after raises.
-use Rattle.relaxation.proofs.Vocabulary.{◌≡◌, ◌<◌, ◌≤◌, ◌+◌, ◌*◌, ◌^◌, ◌∙◌, ℕ, ℤ, pos, ◌+ℤ◌, ◌*ℤ◌, neg_ℤ, ◌≤ℤ◌, ◌<ℤ◌, List, length, set, All, Some, inl, inr, sym, subst, refl, arith, slice_get, cases_eq, get_or-set_same, get_or-set_other, get_or_default, length-set, ints, Constraint, IsSmallConstraint, IsBelow, Gains, gain_of, value_of, GivesMore, offer_of, AreRaised, AreRaisedBy}
+use Rattle.relaxation.proofs.Vocabulary.{◌≡◌, ◌<◌, ◌≤◌, ◌+◌, ◌*◌, ◌^◌, ◌∙◌, ℕ, ℤ, pos, ◌+ℤ◌, ◌*ℤ◌, neg_ℤ, ◌≤ℤ◌, ◌<ℤ◌, List, length, set, All, Some, subst, refl, arith, slice_get, get_or_default, length-set, ints, Constraint, IsSmallConstraint, IsBelow, Gains, gain_of, value_of, GivesMore, offer_of, AreRaised, AreRaisedBy}
 use Rattle.cts_model.proofs.ScaleLemmas.{scale-add}
 use Rattle.relaxation.proofs.Climbs.{all_at}
 use Rattle.relaxation.proofs.GainLemmas.{gain_small}
+use Rattle.relaxation.proofs.SetLemmas.{at_set}
 
 -- a greater bound does too
 pub small_wider : (bound more : ℕ) (values : List ℤ) → bound ≤ more → All (IsBelow bound) values
@@ -109,12 +110,9 @@ module _ (gains : Gains) (values : List ℤ) (it : Constraint)
   each : (P : ℕ → ℤ → Type 0) → P it.head (offer_of gains values it) → ((register : ℕ)
       → register < length values → P register (value_of values register)) → (register : ℕ)
       → register < length raised_values → P register (value_of raised_values register)
-  each P at_head elsewhere register within = elim (cases_eq register it.head) [
-    | inl same ↦ subst (λ r. P r (value_of raised_values r)) (sym same) (subst (P it.head) (sym
-        (get_or-set_same values it.head (offer_of gains values it) (pos 0) small.head)) at_head)
-    | inr apart ↦ subst (P register) (sym (get_or-set_other values it.head register
-        (offer_of gains values it) (pos 0) apart)) (elsewhere register (omega (arith, long)))
-  ]
+  each P at_head elsewhere register within = at_set (λ r z. r < length values → P r z) values it.head
+      (offer_of gains values it) (pos 0) small.head (λ known. at_head)
+      (λ r apart known. elsewhere r known) register (omega (arith, long))
 
   -- one raise
   pub AreRaisedBy-one : (constraints : List Constraint) (place : ℕ) → slice_get constraints place

@@ -2,7 +2,7 @@
 use Rattle.relaxation.proofs.Vocabulary.{◌≡◌, ◌<◌, ◌≤◌, ◌+◌, ◌^◌, ◌∙◌, ℕ, ℤ, pos, ◌≤ℤ◌, List, length, get_or, set, All, Option, Some, None, MatchOption, IfSome, ◌⊎◌, sym, subst, ap, refl, arith, slice_get, ⊤, Bool, true, false, inl, inr, ◌-◌, cases_lt, option_or, length-set, slice_get-get_or, slice_get_within, Constraint, AreSmallConstraints, IsSmallConstraint, IsBelow, Gains, Relaxation, value_of, HasEntries, HasRisen, HasRoom, IsLeft, IsRaised, IsRelaxed, AreRaisedBy, IsSweeping, IsReady, IsSweep, LeavesParents}
 use Rattle.relaxation.specs.Places.{place_at}
 use Rattle.relaxation.proofs.RelaxLemmas.{nowhere}
-use Rattle.relaxation.proofs.RiseLemmas.{AreRaised-more, AreRaised-none, AreRaisedBy-none, AreRaisedBy-one, AreRaisedBy-more, small_capped, small_raised}
+use Rattle.relaxation.proofs.RiseLemmas.{AreRaised-more, AreRaisedBy-none, AreRaisedBy-one, AreRaisedBy-more, small_capped, small_raised}
 use Rattle.relaxation.proofs.ParentLemmas.{IsRaise, IsRaise-set}
 use Rattle.relaxation.proofs.SweepLemmas.{IsSweeping-fewer, IsSweeping-left, IsSweeping-raised}
 

@@ -1,6 +1,7 @@
 -- One constraint more is linked with those before it that have its tail.
-use Rattle.relaxation.proofs.Vocabulary.{◌≡◌, ◌≢◌, ◌<◌, ◌+◌, ◌∙◌, ℕ, List, length, get_or, set, inl, inr, subst, sym, ap, arith, cases_eq, get_or_default, get_or_read, get_or-set_same, get_or-set_other, length-set, Constraint, IsLastBefore, AreByTail}
+use Rattle.relaxation.proofs.Vocabulary.{◌≡◌, ◌≢◌, ◌<◌, ◌+◌, ◌∙◌, ℕ, List, length, get_or, set, inl, inr, subst, sym, ap, arith, cases_eq, get_or_default, get_or_read, length-set, Constraint, IsLastBefore, AreByTail}
 use Rattle.relaxation.proofs.RelaxLemmas.{nowhere}
+use Rattle.relaxation.proofs.SetLemmas.{at_set}
 
 -- the tail of the constraint at a place
 abbrev tail_of : List Constraint → ℕ → Constraint → ℕ
@@ -47,23 +48,15 @@ module _ {constraints : List Constraint} {registers end : ℕ} {last before : Li
   AreByTail-more now read = record {
     lasts = length-set last it.tail (end + 1) ∙ tails.lasts;
     befores = length-set before end now ∙ tails.befores;
-    last_is = λ register inside. elim (cases_eq register it.tail) [
-      | inl same ↦ subst (λ r. IsLastBefore constraints (end + 1) r (get_or (set last it.tail
-          (end + 1)) r 0)) (sym same) (subst (IsLastBefore constraints (end + 1) it.tail) (sym
-          (get_or-set_same last it.tail (end + 1) 0 (omega (arith, known, tails.lasts)))) last_here)
-      | inr apart ↦ subst (IsLastBefore constraints (end + 1) register) (sym (get_or-set_other
-          last it.tail register (end + 1) 0 apart)) (last_there register inside apart)
-    ];
-    before_is = λ place default below. elim (cases_eq place end) [
-      | inl same ↦ subst (λ p. IsLastBefore constraints p (tail_of constraints p default)
-          (get_or (set before end now) p 0)) (sym same) (subst (IsLastBefore
-          constraints end (tail_of constraints end default)) (sym (get_or-set_same before end now
-          0 (omega (arith, within, tails.befores)) ∙ now_is)) (subst (λ t. IsLastBefore constraints
-          end t (get_or last it.tail 0)) (sym (at_end default)) (tails.last_is it.tail known)))
-      | inr apart ↦ subst (IsLastBefore constraints place (tail_of constraints place default))
-          (sym (get_or-set_other before end place now 0 apart))
-          (tails.before_is place default (omega (arith, below, apart)))
-    ];
+    last_is = at_set (λ register mark. register < registers
+        → IsLastBefore constraints (end + 1) register mark) last it.tail (end + 1) 0
+        (omega (arith, known, tails.lasts)) (λ inside. last_here)
+        (λ register apart inside. last_there register inside apart);
+    before_is = λ place default. at_set (λ place mark. place < end + 1
+        → IsLastBefore constraints place (tail_of constraints place default) mark) before end now 0
+        (omega (arith, within, tails.befores)) (λ below. rw (now_is, at_end default)
+        (tails.last_is it.tail known))
+        (λ other apart below. tails.before_is other default (omega (arith, below, apart))) place;
   }
     where
       -- what the code reads
