@@ -124,7 +124,7 @@ impl Relaxation {
         let mut register = top;
         for _step in 0..self.parents.len() {
             let place = self.parents[register as usize] as usize;
-            self.relax_in_turn(constraints, gains, place, turns);
+            self.offer(constraints, gains, place, turns);
             let below = links[register as usize].wrapping_sub(1);
             if below == register || below as usize >= links.len() {
                 return;
@@ -155,7 +155,7 @@ impl Relaxation {
     {
         turns.clear();
         for place in 0..constraints.len() {
-            self.relax_in_turn(constraints, gains, place, turns);
+            self.offer(constraints, gains, place, turns);
         }
     }
 
@@ -174,35 +174,23 @@ impl Relaxation {
     }
 
     // Relaxes each constraint that leads from a register.
-    fn hand_on(
-        &mut self,
-        constraints: &[Constraint],
-        gains: Gains,
-        register: usize,
-        turns: &mut Turns,
-    )
+    fn hand_on(&mut self, constraints: &[Constraint], gains: Gains, from: usize, turns: &mut Turns)
         requires { HasRoom constraints.now self.old }
         ensures { HasRisen constraints.now gains self.old self.new }
     {
-        let mut next = turns.last_from(register);
+        let mut next = turns.last_from(from);
         for _step in 0..constraints.len() {
             let Some(place) = next else {
                 return;
             };
-            self.relax_in_turn(constraints, gains, place, turns);
+            self.offer(constraints, gains, place, turns);
             next = turns.before(place);
         }
     }
 
     // Raises the head of the constraint at a place, if there is one that gives it more. The head
     // waits then. A tail above the cap hands nothing on.
-    fn relax_in_turn(
-        &mut self,
-        constraints: &[Constraint],
-        gains: Gains,
-        place: usize,
-        turns: &mut Turns,
-    )
+    fn offer(&mut self, constraints: &[Constraint], gains: Gains, place: usize, turns: &mut Turns)
         requires { HasRoom constraints.now self.old }
         ensures { HasRisen constraints.now gains self.old self.new }
     {

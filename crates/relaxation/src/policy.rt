@@ -85,18 +85,12 @@ impl Relaxation {
     }
 
     // Makes each linked constraint that leads from a register its head's parent if it gains more.
-    fn prefer_from(
-        &mut self,
-        constraints: &[Constraint],
-        gains: Gains,
-        register: usize,
-        turns: &Turns,
-    )
+    fn prefer_from(&mut self, constraints: &[Constraint], gains: Gains, from: usize, turns: &Turns)
         requires entries { HasEntries constraints.now self.old }
         ensures values { length self.new.values.items ≡ length self.old.values.items }
         ensures parents { length self.new.parents.items ≡ length self.old.parents.items }
     {
-        let mut next = turns.last_from(register);
+        let mut next = turns.last_from(from);
         for _step in 0..constraints.len() {
             let Some(place) = next else {
                 return;

@@ -2,7 +2,7 @@
 use Rattle.relaxation.proofs.Vocabulary.{◌≡◌, ◌<◌, ◌^◌, ℕ, ℤ, pos, ◌≤ℤ◌, List, Option, length, get_or, subst, arith, ints, get_or_read, Constraint, Gains, Relaxation, HasRisen, HasRoom, IsRelaxed}
 use Rattle.relaxation.proofs.RelaxLemmas.{nowhere}
 use Rattle.relaxation.proofs.StepLemmas.{HasRisen-one}
-use Rattle.relaxation.proofs.relaxation.Relaxation.relax_in_turn.Goals as goal
+use Rattle.relaxation.proofs.relaxation.Relaxation.offer.Goals as goal
 
 -- what is read at the tail is its value
 risen : (constraints : List Constraint) (gains : Gains) (place : ℕ) (answer : Option ℕ)
