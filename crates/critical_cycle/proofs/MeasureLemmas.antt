@@ -7,9 +7,8 @@ use Rattle.critical_cycle.proofs.SumLemmas.{AreSmallSums}
 
 -- what is weighed less what is counted, of one and of others
 gains_together : (den num weight weights whole : ℤ) (count counts total : ℕ)
-    → whole ≡ weight +ℤ weights → total ≡ count + counts
-    → ((den *ℤ weight) -ℤ (num *ℤ pos count)) +ℤ ((den *ℤ weights) -ℤ (num *ℤ pos counts))
-    ≡ (den *ℤ whole) -ℤ (num *ℤ pos total)
+    → whole ≡ weight +ℤ weights → total ≡ count + counts → ((den *ℤ weight) -ℤ (num *ℤ pos count))
+    +ℤ ((den *ℤ weights) -ℤ (num *ℤ pos counts)) ≡ (den *ℤ whole) -ℤ (num *ℤ pos total)
 gains_together den num weight weights whole count counts total both sum =
     let plain : up whole + down weight + down weights ≡ down whole + up weight + up weights =
     omega (arith, ints) in
@@ -21,11 +20,9 @@ gains_together den num weight weights whole count counts total both sum =
 
 -- the gain of a constraint over numbers: what it weighs times the denominator, less what it counts
 -- times the numerator
-gain_over : (den num q p w : ℤ) (setup every : Bool)
-    → ((den *ℤ q) *ℤ w)
-    -ℤ (if setup then (den *ℤ p) +ℤ num else (if every then num else pos 0))
-    ≡ (den *ℤ ((q *ℤ w) -ℤ (p *ℤ pos (if setup then 1 else 0))))
-    -ℤ (num *ℤ pos (if every then 1 else (if setup then 1 else 0)))
+gain_over : (den num q p w : ℤ) (setup every : Bool) → ((den *ℤ q) *ℤ w) -ℤ (if
+    setup then (den *ℤ p) +ℤ num else (if every then num else pos 0)) ≡ (den *ℤ ((q *ℤ w) -ℤ (p *ℤ
+    pos (if setup then 1 else 0)))) -ℤ (num *ℤ pos (if every then 1 else (if setup then 1 else 0)))
 gain_over den num q p w setup every = at setup every
   where
     -- over the products
@@ -48,10 +45,8 @@ gain_over den num q p w setup every = at setup every
     due_never : pos 0 ≡ (den *ℤ (p *ℤ pos 0)) +ℤ (num *ℤ pos 0)
     due_never = rw (never p, never den, never num) refl
 
-    at : (setup every : Bool)
-        → ((den *ℤ q) *ℤ w)
-        -ℤ (if setup then (den *ℤ p) +ℤ num else (if every then num else pos 0))
-        ≡ (den *ℤ ((q *ℤ w) -ℤ (p *ℤ pos (if setup then 1 else 0))))
+    at : (setup every : Bool) → ((den *ℤ q) *ℤ w) -ℤ (if setup then (den *ℤ p) +ℤ num else
+        (if every then num else pos 0)) ≡ (den *ℤ ((q *ℤ w) -ℤ (p *ℤ pos (if setup then 1 else 0))))
         -ℤ (num *ℤ pos (if every then 1 else (if setup then 1 else 0)))
     at true true = joined _ (den *ℤ (q *ℤ w)) _ (den *ℤ (p *ℤ pos 1)) (num *ℤ pos 1) _
         (times_times den q w) (times-sub den (q *ℤ w) (p *ℤ pos 1)) due
@@ -63,70 +58,57 @@ gain_over den num q p w setup every = at setup every
         (times_times den q w) (times-sub den (q *ℤ w) (p *ℤ pos 0)) due_never
 
 -- what a cycle weighs is what its first constraint weighs and what the others do
-cycle_weight-cons : (measure : Measure) (step : Constraint) (steps : List Constraint)
-    → cycle_weight measure (step ∷ steps)
-    ≡ measured_weight measure step +ℤ cycle_weight measure steps
-cycle_weight-cons measure step steps =
-    sym (gains_together measure.scale measure.period step.weight (total_weight steps)
-    (total_weight (step ∷ steps)) (count_of step) (total_count steps)
-    (total_count (step ∷ steps)) refl (sum_by-cons count_of step steps))
+cycle_weight-cons : (measure : Measure) (step : Constraint) (steps : List Constraint) → cycle_weight
+    measure (step ∷ steps) ≡ measured_weight measure step +ℤ cycle_weight measure steps
+cycle_weight-cons measure step steps = sym (gains_together measure.scale
+    measure.period step.weight (total_weight steps) (total_weight (step ∷ steps)) (count_of step)
+    (total_count steps) (total_count (step ∷ steps)) refl (sum_by-cons count_of step steps))
 
 -- and so is what it counts
 cycle_count-cons : (measure : Measure) (step : Constraint) (steps : List Constraint)
-    → cycle_count measure (step ∷ steps)
-    ≡ measured_count measure step + cycle_count measure steps
-cycle_count-cons measure step steps =
-    at measure.every (total_count (step ∷ steps)) (count_of step) (total_count steps)
-    (sum_by-cons count_of step steps)
+    → cycle_count measure (step ∷ steps) ≡ measured_count measure step + cycle_count measure steps
+cycle_count-cons measure step steps = at measure.every (total_count (step ∷ steps))
+    (count_of step) (total_count steps) (sum_by-cons count_of step steps)
   where
-    at : (every : Bool) (whole one others : ℕ) → whole ≡ one + others
-        → (if every then length (step ∷ steps) else whole)
-        ≡ (if every then 1 else one) + (if every then length steps else others)
+    at : (every : Bool) (whole one others : ℕ) → whole ≡ one + others → (if every then length (step
+        ∷ steps) else whole) ≡ (if every then 1 else one) + (if every then length steps else others)
     at true whole one others is = omega arith
     at false whole one others is = is
 
 module _ {measure : Measure} {ratio : Fraction} {trial : Gains}
     (trial_at : IsTrialAt measure ratio trial) where
   -- the gain of a constraint at the trial's ratio
-  gain_is : (step : Constraint)
-      → gain_of trial step ≡ (ratio.den *ℤ measured_weight measure step)
+  gain_is : (step : Constraint) → gain_of trial step ≡ (ratio.den *ℤ measured_weight measure step)
       -ℤ (ratio.num *ℤ pos (measured_count measure step))
-  gain_is step = rw (trial_at.scale_is, trial_at.setup_is, trial_at.hold_is)
-      (gain_over ratio.den ratio.num measure.scale measure.period step.weight step.setup
-      measure.every)
+  gain_is step = rw (trial_at.scale_is, trial_at.setup_is, trial_at.hold_is) (gain_over
+      ratio.den ratio.num measure.scale measure.period step.weight step.setup measure.every)
 
   -- and that of a cycle
-  pub total_gain-sums : (steps : List Constraint)
-      → total_gain trial steps ≡ (ratio.den *ℤ cycle_weight measure steps)
-      -ℤ (ratio.num *ℤ pos (cycle_count measure steps))
+  pub total_gain-sums : (steps : List Constraint) → total_gain trial steps
+      ≡ (ratio.den *ℤ cycle_weight measure steps) -ℤ (ratio.num *ℤ pos (cycle_count measure steps))
   total_gain-sums [] = nothing measure.every
     where
-      nothing : (every : Bool)
-          → pos 0 ≡ (ratio.den *ℤ ((measure.scale *ℤ pos 0) -ℤ (measure.period *ℤ pos 0)))
-          -ℤ (ratio.num *ℤ pos (if every then 0 else 0))
+      nothing : (every : Bool) → pos 0 ≡ (ratio.den *ℤ ((measure.scale *ℤ pos 0)
+          -ℤ (measure.period *ℤ pos 0))) -ℤ (ratio.num *ℤ pos (if every then 0 else 0))
       nothing true = rw (never measure.scale, never measure.period, never ratio.num)
           (sym (ap (λ z. z -ℤ pos 0) (never ratio.den)))
       nothing false = rw (never measure.scale, never measure.period, never ratio.num)
           (sym (ap (λ z. z -ℤ pos 0) (never ratio.den)))
-  total_gain-sums (step ∷ steps) =
-      ap (λ g. gain_of trial step +ℤ g) (total_gain-sums steps)
+  total_gain-sums (step ∷ steps) = ap (λ g. gain_of trial step +ℤ g) (total_gain-sums steps)
       ∙ ap (λ g. g +ℤ ((ratio.den *ℤ cycle_weight measure steps)
-      -ℤ (ratio.num *ℤ pos (cycle_count measure steps)))) (gain_is step)
-      ∙ gains_together ratio.den ratio.num (measured_weight measure step)
-      (cycle_weight measure steps)
-      (cycle_weight measure (step ∷ steps)) (measured_count measure step)
-      (cycle_count measure steps) (cycle_count measure (step ∷ steps))
-      (cycle_weight-cons measure step steps) (cycle_count-cons measure step steps)
+      -ℤ (ratio.num *ℤ pos (cycle_count measure steps)))) (gain_is step) ∙ gains_together ratio.den
+      ratio.num (measured_weight measure step) (cycle_weight measure steps) (cycle_weight measure
+      (step ∷ steps)) (measured_count measure step) (cycle_count measure steps) (cycle_count measure
+      (step ∷ steps)) (cycle_weight-cons measure step steps) (cycle_count-cons measure step steps)
 
   -- values that satisfy the constraints by their gains do so at the ratio
   pub satisfies_ratio : (constraints : List Constraint) (value : ℕ → ℤ)
       → SatisfiesGains constraints trial 1 value → SatisfiesRatio measure constraints ratio value
   satisfies_ratio constraints value satisfies place default within =
       let it : Constraint = get_or constraints place default in
-      parted (value it.tail) (ratio.den *ℤ measured_weight measure it)
-      (ratio.num *ℤ pos (measured_count measure it)) (value it.head)
-      (subst (λ g. (value it.tail +ℤ (pos 1 *ℤ g)) ≤ℤ value it.head) (gain_is it)
-      (satisfies place default within))
+      parted (value it.tail) (ratio.den *ℤ measured_weight measure it) (ratio.num *ℤ
+      pos (measured_count measure it)) (value it.head) (subst (λ g. (value it.tail +ℤ (pos 1 *ℤ g))
+      ≤ℤ value it.head) (gain_is it) (satisfies place default within))
     where
       parted : (from asked due to : ℤ) → (from +ℤ (pos 1 *ℤ (asked -ℤ due))) ≤ℤ to
           → (from +ℤ asked) ≤ℤ (to +ℤ due)
@@ -171,15 +153,13 @@ small_in measure steps small few =
 module _ (measure : Measure) (steps : List Constraint) (weight count : ℤ)
     (weighs : weight ≡ total_weight steps) (counts : count ≡ pos (total_count steps)) where
   -- weigh what the steps weigh
-  pub weighed : (whole : ℤ)
-      → whole ≡ (measure.scale *ℤ weight) -ℤ (measure.period *ℤ count)
-      → whole ≡ cycle_weight measure steps
+  pub weighed : (whole : ℤ) → whole
+      ≡ (measure.scale *ℤ weight) -ℤ (measure.period *ℤ count) → whole ≡ cycle_weight measure steps
   weighed whole is = is ∙ rw (weighs, counts) refl
 
   -- and count what they count
-  pub counted : (many : ℕ) (whole : ℤ) → length steps ≡ many
-      → whole ≡ (if measure.every then pos many else count)
-      → whole ≡ pos (cycle_count measure steps)
+  pub counted : (many : ℕ) (whole : ℤ) → length steps ≡ many → whole
+      ≡ (if measure.every then pos many else count) → whole ≡ pos (cycle_count measure steps)
   counted many whole long is = is ∙ at measure.every
     where
       at : (every : Bool) → (if every then pos many else count)
@@ -188,12 +168,10 @@ module _ (measure : Measure) (steps : List Constraint) (weight count : ℤ)
       at false = counts
 
 -- what is within the most weight is small
-pub most_small : (measure : Measure) (number : ℤ)
-    → neg_ℤ (most_weight measure.scale measure.period) ≤ℤ number
-    → number ≤ℤ most_weight measure.scale measure.period → IsBelow (2 ^ 63) number
-most_small measure number above below =
-    over measure.scale measure.period measure.valid.some measure.valid.fine
-    measure.valid.from_zero measure.valid.short above below
+pub most_small : (measure : Measure) (number : ℤ) → neg_ℤ (most_weight measure.scale measure.period)
+    ≤ℤ number → number ≤ℤ most_weight measure.scale measure.period → IsBelow (2 ^ 63) number
+most_small measure number above below = over measure.scale measure.period
+    measure.valid.some measure.valid.fine measure.valid.from_zero measure.valid.short above below
   where
     over : (scale period : ℤ) → pos 1 ≤ℤ scale → scale ≤ℤ pos (10 ^ 4) → pos 0 ≤ℤ period
         → period <ℤ pos (10 ^ 15) → neg_ℤ (most_weight scale period) ≤ℤ number
@@ -259,9 +237,8 @@ module _ (measure : Measure) (ratio : Fraction) (small : CanTry measure ratio) w
       ((ratio.den *ℤ measure.period) +ℤ ratio.num) (if measure.every then ratio.num else pos 0)
   trial_small =
       let valid = measure.valid in
-      trial_small_over ratio.den ratio.num measure.scale measure.period measure.every
-      small.proper small.low valid.some valid.fine valid.from_zero valid.short small.above
-      small.below
+      trial_small_over ratio.den ratio.num measure.scale measure.period measure.every small.proper
+      small.low valid.some valid.fine valid.from_zero valid.short small.above small.below
 
   -- a denominator is small
   den_small : IsBelow (2 ^ 63) ratio.den
@@ -274,9 +251,8 @@ module _ (measure : Measure) (ratio : Fraction) (small : CanTry measure ratio) w
   pub scale_read : (den product : ℤ) → den ≡ ratio.den
       → product ≡ kept den *ℤ kept measure.scale → kept product ≡ ratio.den *ℤ measure.scale
   scale_read den product same is =
-      let whole : product ≡ ratio.den *ℤ measure.scale =
-      is ∙ ap (λ z. kept z *ℤ kept measure.scale) same
-      ∙ small_product_read ratio.den measure.scale den_small (scale_small measure) in
+      let whole : product ≡ ratio.den *ℤ measure.scale = is ∙ ap (λ z. kept z *ℤ kept measure.scale)
+      same ∙ small_product_read ratio.den measure.scale den_small (scale_small measure) in
       ap kept whole ∙ at (ratio.den *ℤ measure.scale) trial_small.some trial_small.fine
     where
       at : (z : ℤ) → pos 1 ≤ℤ z → z ≤ℤ pos (4097 * 10 ^ 8) → kept z ≡ z
@@ -300,8 +276,7 @@ module _ (measure : Measure) (ratio : Fraction) (small : CanTry measure ratio) w
   -- and for a hold constraint
   pub hold_read : (hold : ℤ) → hold ≡ (if measure.every then ratio.num else pos 0)
       → kept hold ≡ (if measure.every then ratio.num else pos 0)
-  hold_read hold is =
-      ap kept is ∙ at (if measure.every then ratio.num else pos 0) trial_small.hold
+  hold_read hold is = ap kept is ∙ at (if measure.every then ratio.num else pos 0) trial_small.hold
     where
       at : (z : ℤ) → IsBelow (2 ^ 79) z → kept z ≡ z
       at z low = omega (arith, ints, low.above, low.below)

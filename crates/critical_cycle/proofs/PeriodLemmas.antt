@@ -14,9 +14,8 @@ use Rattle.critical_cycle.proofs.RaiseLemmas.{size_is}
 -- the constraints at places are constraints of the list
 among : (constraints : List Constraint) (cycle : List ℕ) → AreWithin constraints cycle
     → All (Contains constraints) (constraints_at constraints cycle)
-among constraints cycle within =
-    All-constraints_at (Contains constraints) constraints cycle (All-contains_itself constraints)
-    within
+among constraints cycle within = All-constraints_at
+    (Contains constraints) constraints cycle (All-contains_itself constraints) within
 
 -- in ticks, with setup constraints alone counted
 pub record IsPlain (measure : Measure) : Type 0 where
@@ -43,9 +42,8 @@ whole_is floor first value low =
     plain a b same = omega (arith, ints)
 
 -- the floor over 1, as the code makes it
-pub floor_is : (floor : ℤ) (first : Fraction) → IsSmallFloor floor
-    → first.num *ℤ pos 1 ≡ to_z w128 (of_z w128 floor) *ℤ first.den
-    → first.den ≤ℤ pos 1 → IsWhole floor first
+pub floor_is : (floor : ℤ) (first : Fraction) → IsSmallFloor floor → first.num *ℤ pos 1
+    ≡ to_z w128 (of_z w128 floor) *ℤ first.den → first.den ≤ℤ pos 1 → IsWhole floor first
 floor_is floor first small value low =
     let plain : to_z w128 (of_z w128 floor) ≡ floor =
     omega (arith, ints, small.positive, small.small) in
@@ -83,8 +81,7 @@ module _ {measure : Measure} (plain : IsPlain measure) where
       let it : Constraint = get_or constraints place default in
       rw (size_is value.den value.lowest.some_den)
       (alone value.den value.num it.weight (arrival it.tail) (arrival it.head) (count_of it)
-      (rw (plain.scale_is, plain.period_is, plain.every_is) at
-      (satisfied place default within)))
+      (rw (plain.scale_is, plain.period_is, plain.every_is) at (satisfied place default within)))
     where
       alone : (den num weight from to : ℤ) (k : ℕ)
           → (from +ℤ (den *ℤ ((pos 1 *ℤ weight) -ℤ (pos 0 *ℤ pos k)))) ≤ℤ (to +ℤ (num *ℤ pos k))
@@ -181,9 +178,8 @@ module _ {measure : Measure} (plain : IsPlain measure) where
           single floor,
           (
             satisfied.0,
-            subst (λ d. Satisfies constraints d floor satisfied.0) (ap nat_abs whole.den_is)
-                (subst (λ n. Satisfies constraints (nat_abs first.den) n satisfied.0) whole.num_is
-                at),
+            subst (λ d. Satisfies constraints d floor satisfied.0) (ap nat_abs whole.den_is) (subst
+                (λ n. Satisfies constraints (nat_abs first.den) n satisfied.0) whole.num_is at),
           ),
         );
         least = λ scale period some below admits.
@@ -248,9 +244,8 @@ never_exactly constraints floor (Never cycle) is = (
 )
 
 -- and the floor exactly where it is the least period
-pub floor_exactly : (constraints : List Constraint) (floor : ℤ) (period : Period)
-    → IsPeriodOf constraints floor period → IsFloor period ↔ IsLeastPeriodOf constraints floor
-    floor 1
+pub floor_exactly : (constraints : List Constraint) (floor : ℤ) (period : Period) → IsPeriodOf
+    constraints floor period → IsFloor period ↔ IsLeastPeriodOf constraints floor floor 1
 floor_exactly constraints floor (Cycle value cycle) is =
     let above : (floor *ℤ pos (nat_abs value.den)) <ℤ value.num =
     rw (size_is value.den value.lowest.some_den) is.above in (

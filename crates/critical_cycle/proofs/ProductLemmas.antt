@@ -5,14 +5,11 @@ use Rattle.std.specs.Int.{w128}
 -- a product of small numbers is small
 pub product_small : (a b : ℤ) → IsBelow (2 ^ 63) a → IsBelow (2 ^ 63) b → IsBelow (2 ^ 126) (a *ℤ b)
 product_small a b first second =
-    let one : unsigned_abs a ≤ 9223372036854775807 =
-    size_within 9223372036854775807 a (omega (arith, ints, first.above))
-    (omega (arith, ints, first.below)) in
-    let other : unsigned_abs b ≤ 9223372036854775807 =
-    size_within 9223372036854775807 b (omega (arith, ints, second.above))
-    (omega (arith, ints, second.below)) in
-    let size : unsigned_abs (a *ℤ b) ≤ 85070591730234615847396907784232501249 =
-    omega (
+    let one : unsigned_abs a ≤ 9223372036854775807 = size_within
+    9223372036854775807 a (omega (arith, ints, first.above)) (omega (arith, ints, first.below)) in
+    let other : unsigned_abs b ≤ 9223372036854775807 = size_within
+    9223372036854775807 b (omega (arith, ints, second.above)) (omega (arith, ints, second.below)) in
+    let size : unsigned_abs (a *ℤ b) ≤ 85070591730234615847396907784232501249 = omega (
       arith,
       unsigned_abs-mul a b,
       mul-le (unsigned_abs a) (unsigned_abs b) 9223372036854775807 9223372036854775807 one other,
@@ -31,9 +28,8 @@ product_fits a b first second =
 -- the code's product of small numbers
 pub small_product_read : (a b : ℤ) → IsBelow (2 ^ 63) a → IsBelow (2 ^ 63) b
     → kept a *ℤ kept b ≡ a *ℤ b
-small_product_read a b first second =
-    product_read a b (omega (arith, ints, first.above, first.below))
-    (omega (arith, ints, second.above, second.below))
+small_product_read a b first second = product_read a b (omega
+    (arith, ints, first.above, first.below)) (omega (arith, ints, second.above, second.below))
 
 -- the code's difference of two products fits
 pub products_fit : (a b : ℤ) → IsBelow (2 ^ 126) a → IsBelow (2 ^ 126) b

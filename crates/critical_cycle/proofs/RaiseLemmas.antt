@@ -10,9 +10,7 @@ size_is (negsuc n) some = absurd (omega (arith, ints))
 
 -- what is above 0 in its multiple is above 0
 positive : (weight : ℤ) (den : ℕ) → pos 0 <ℤ (weight *ℤ pos den) → pos 0 <ℤ weight
-positive weight den above = by_lt_z (pos 0) weight
-    (λ more. more)
-    (λ none.
+positive weight den above = by_lt_z (pos 0) weight (λ more. more) (λ none.
     let under : up weight ≤ down weight = omega (arith, ints) in
     let less = mul-le-mul_left den under in
     absurd (omega (arith, ints)))
@@ -21,9 +19,8 @@ positive weight den above = by_lt_z (pos 0) weight
 value_above : (num weight value : ℤ) (den size count : ℕ) → 1 ≤ count → 1 ≤ size
     → value *ℤ pos count ≡ weight *ℤ pos size → (pos count *ℤ num) <ℤ (weight *ℤ pos den)
     → (num *ℤ pos size) <ℤ (value *ℤ pos den)
-value_above num weight value den size count counts some is above =
-    by_lt_z (num *ℤ pos size) (value *ℤ pos den) (λ more. more)
-    (λ less.
+value_above num weight value den size count
+    counts some is above = by_lt_z (num *ℤ pos size) (value *ℤ pos den) (λ more. more) (λ less.
     let same : up value * count + down weight * size ≡ down value * count + up weight * size =
     omega (arith, ints) in
     let over : count * up num + down weight * den + 1 ≤ count * down num + up weight * den =
@@ -52,8 +49,7 @@ module _ (measure : Measure) (ratio : Fraction) (steps : List Constraint) (weigh
     (counts : count ≡ pos (cycle_count measure steps)) where
   -- a cycle that weighs no more than it counts says nothing
   pub no_gain : ((count *ℤ ratio.num) <ℤ (weight *ℤ ratio.den) → ⊥)
-      → (ratio.den *ℤ cycle_weight measure steps)
-      ≤ℤ (ratio.num *ℤ pos (cycle_count measure steps))
+      → (ratio.den *ℤ cycle_weight measure steps) ≤ℤ (ratio.num *ℤ pos (cycle_count measure steps))
   no_gain kept = rw (← weighs, ← counts) (at ratio.num ratio.den weight count kept)
     where
       at : (num den w c : ℤ) → ((c *ℤ num) <ℤ (w *ℤ den) → ⊥) → (den *ℤ w) ≤ℤ (num *ℤ c)
@@ -68,9 +64,8 @@ module _ (measure : Measure) (ratio : Fraction) (steps : List Constraint) (weigh
       → NeverCounts measure steps
   never_counts none above = record {
     counts = plain (cycle_count measure steps) count counts none;
-    weighs = rw weighs at (positive weight (nat_abs ratio.den)
-        (rw (size_is ratio.den ratio.lowest.some_den) (over count ratio.num weight ratio.den none
-        above)));
+    weighs = rw weighs at (positive weight (nat_abs ratio.den) (rw (size_is
+        ratio.den ratio.lowest.some_den) (over count ratio.num weight ratio.den none above)));
   }
     where
       plain : (k : ℕ) (c : ℤ) → c ≡ pos k → c ≡ pos 0 → k ≡ 0
@@ -83,10 +78,9 @@ module _ (measure : Measure) (ratio : Fraction) (steps : List Constraint) (weigh
           none_less a b less = omega (arith, ints)
 
   -- the value that the sums make is above the ratio
-  pub raised : (value : Fraction) → AreSmallIn measure steps
-      → 1 ≤ cycle_count measure steps → (count *ℤ ratio.num) <ℤ (weight *ℤ ratio.den)
-      → value.num *ℤ count ≡ weight *ℤ value.den → nat_abs value.num ≤ nat_abs weight
-      → value.den ≤ℤ count → IsRaisedTo measure ratio steps value
+  pub raised : (value : Fraction) → AreSmallIn measure steps → 1 ≤ cycle_count measure steps
+      → (count *ℤ ratio.num) <ℤ (weight *ℤ ratio.den) → value.num *ℤ count ≡ weight *ℤ value.den →
+      nat_abs value.num ≤ nat_abs weight → value.den ≤ℤ count → IsRaisedTo measure ratio steps value
   raised value small some above is num den =
       let size = size_is value.den value.lowest.some_den in
       let ratio_size = size_is ratio.den ratio.lowest.some_den in

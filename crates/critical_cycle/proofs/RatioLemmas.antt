@@ -8,24 +8,21 @@ module _ (measure : Measure) (constraints : List Constraint) (cycle rotated : Li
   -- a cycle that is rotated weighs the same
   weight_same : cycle_weight measure (constraints_at constraints rotated)
       ≡ cycle_weight measure (constraints_at constraints cycle)
-  weight_same =
-      rw (
-        rotated_weight constraints cycle rotated turn is,
-        rotated_count constraints cycle rotated turn is,
-      ) refl
+  weight_same = rw (
+    rotated_weight constraints cycle rotated turn is,
+    rotated_count constraints cycle rotated turn is,
+  ) refl
 
   -- and counts the same
   count_same : cycle_count measure (constraints_at constraints rotated)
       ≡ cycle_count measure (constraints_at constraints cycle)
-  count_same =
-      rw (
-        rotated_length constraints cycle rotated turn is,
-        rotated_count constraints cycle rotated turn is,
-      ) refl
+  count_same = rw (
+    rotated_length constraints cycle rotated turn is,
+    rotated_count constraints cycle rotated turn is,
+  ) refl
 
   -- so it shows the same value
-  pub shown_rotated : (first value : Fraction)
-      → IsValueShown measure constraints first cycle value
+  pub shown_rotated : (first value : Fraction) → IsValueShown measure constraints first cycle value
       → (arrival : ℕ → ℤ) → SatisfiesRatio measure constraints value arrival
       → IsShownRatio measure constraints first value rotated
   shown_rotated first value shown arrival satisfied = record {

@@ -7,13 +7,11 @@ use Rattle.critical_cycle.proofs.Turns.{cycle_from_closed}
 use Rattle.relaxation.proofs.Climbs.{climbs_push, direct_climb, IsDirect, not_passed, parent_place, ring_at_end}
 
 -- a gain that is added last counts as one that is added first
-gains_push : (trial : Gains) (constraints : List Constraint) (next : Constraint)
-    → total_gain trial (constraints ++ next ∷ []) ≡ gain_of trial next +ℤ total_gain trial
-    constraints
+gains_push : (trial : Gains) (constraints : List Constraint) (next : Constraint) → total_gain
+    trial (constraints ++ next ∷ []) ≡ gain_of trial next +ℤ total_gain trial constraints
 gains_push trial [] next = refl
-gains_push trial (first ∷ constraints) next =
-    swapped (gain_of trial first) (gain_of trial next) _ (total_gain trial constraints)
-    (gains_push trial constraints next)
+gains_push trial (first ∷ constraints) next = swapped (gain_of trial first)
+    (gain_of trial next) _ (total_gain trial constraints) (gains_push trial constraints next)
   where
     swapped : (a b c d : ℤ) → c ≡ b +ℤ d → a +ℤ c ≡ b +ℤ (a +ℤ d)
     swapped a b c d is = omega (arith, ints)
@@ -82,8 +80,7 @@ module _ (constraints : List Constraint) (parents : List ℕ) where
     steps_are : 0 < at → at ≤ length places → slice_get constraints place ≡ Some next
         → constraints_at constraints (drop (at - 1) (set places (at - 1) place))
         ≡ next ∷ constraints_at constraints (drop at places)
-    steps_are some room here =
-        ap (constraints_at constraints) (before_is some room here)
+    steps_are some room here = ap (constraints_at constraints) (before_is some room here)
         ∙ ap (λ o. cons_option o (constraints_at constraints (drop at places))) here
 
     gone_more : (start register : ℕ) → IsGone constraints parents places start at register → 0 < at
@@ -103,8 +100,7 @@ module _ (constraints : List Constraint) (parents : List ℕ) where
           long = omega (
             arith,
             length-set places (at - 1) place,
-            length-append gone.climbed
-                (next ∷ []),
+            length-append gone.climbed (next ∷ []),
             gone.long,
           );
           within = subst (AreWithin constraints) (sym (before_is some room here))
@@ -113,17 +109,15 @@ module _ (constraints : List Constraint) (parents : List ℕ) where
           leads = subst (λ cs. Leads next.tail cs start) (sym whole)
               (refl, subst (λ r. Leads r steps start) (sym head) gone.leads);
           once = subst (AllPairs R) (sym whole) (AllPairs-cons R next steps apart gone.once);
-          gained = λ trial. gains_push trial gone.climbed next
-              ∙ ap (λ g. gain_of trial next +ℤ g) (gone.gained trial)
-              ∙ sym (ap (total_gain trial) whole);
+          gained = λ trial. gains_push trial gone.climbed next ∙ ap (λ g. gain_of trial next +ℤ g)
+              (gone.gained trial) ∙ sym (ap (total_gain trial) whole);
         }
 
   -- the next step's parent, where what is left isn't all gone by
   left_more : (places : List ℕ) (start at : ℕ) (next : Constraint) (rest : List Constraint)
-      → Climbs constraints parents next.tail rest start → IsDirect start next.tail rest
-      → next.tail ≢ start → length rest ≤ at → All (λ step. All (λ gone. step.tail ≢ gone.tail)
-      (constraints_at constraints (drop at places))) rest
-      → IsLeft constraints parents places start at next.tail
+      → Climbs constraints parents next.tail rest start → IsDirect start next.tail rest → next.tail
+      ≢ start → length rest ≤ at → All (λ step. All (λ gone. step.tail ≢ gone.tail) (constraints_at
+      constraints (drop at places))) rest → IsLeft constraints parents places start at next.tail
   left_more places start at next [] climbs direct goes_on fits apart = absurd (goes_on climbs)
   left_more places start at next (step ∷ rest) climbs direct goes_on fits apart = record {
     next = step;
@@ -159,11 +153,10 @@ module _ (constraints : List Constraint) (parents : List ℕ) where
               climbs = direct.1;
               direct = direct.2;
               fits = omega (arith, direct.3);
-              apart = λ k d within. subst
-                  (λ ps. All (λ (gone : Constraint). (get_or (next ∷ direct.0) k d).tail ≢
-                  gone.tail) (constraints_at constraints ps)) (sym none)
-                  (All-nil (λ (gone : Constraint). (get_or (next ∷ direct.0) k d).tail ≢
-                  gone.tail));
+              apart = λ k d within.
+                  subst (λ ps. All (λ (gone : Constraint). (get_or (next ∷ direct.0) k d).tail
+                  ≢ gone.tail) (constraints_at constraints ps)) (sym none) (All-nil
+                  (λ (gone : Constraint). (get_or (next ∷ direct.0) k d).tail ≢ gone.tail));
             };
           }
 
@@ -194,20 +187,16 @@ module _ (constraints : List Constraint) (parents : List ℕ) where
       -- it leads to what is gone by
       next_gone : IsGone constraints parents (set places (at - 1) (get_or parents register 0))
           start (at - 1) walk.left.next.tail
-      next_gone =
-          gone_more places at (get_or parents register 0) walk.left.next start register walk.gone
-          (omega (arith, walk.left.fits)) read_place walk.left.reads
-          (heads register walk.left.next walk.left.reads)
-          (All-head (λ (step : Constraint). All (λ (gone : Constraint). step.tail ≢ gone.tail)
-          (constraints_at constraints (drop at places))) walk.left.next walk.left.rest
-          walk.left.apart)
+      next_gone = gone_more places at (get_or parents register 0)
+          walk.left.next start register walk.gone (omega (arith, walk.left.fits))
+          read_place walk.left.reads (heads register walk.left.next walk.left.reads) (All-head
+          (λ (step : Constraint). All (λ (gone : Constraint). step.tail ≢ gone.tail) (constraints_at
+          constraints (drop at places))) walk.left.next walk.left.rest walk.left.apart)
 
       -- the walk goes on where it isn't back
-      pub round_next : (d : Constraint)
-          → (get_or constraints (get_or parents register 0) d).tail ≢ start
-          → IsRoundWalk constraints parents (set places (at - 1) (get_or parents register 0)) start
-          (at - 1)
-          (get_or constraints (get_or parents register 0) d).tail
+      pub round_next : (d : Constraint) → (get_or constraints (get_or parents register 0) d).tail ≢
+          start → IsRoundWalk constraints parents (set places (at - 1) (get_or parents register 0))
+          start (at - 1) (get_or constraints (get_or parents register 0) d).tail
       round_next d goes_on =
           let same = sym (read_step d) in
           let after = set places (at - 1) (get_or parents register 0) in
@@ -220,27 +209,22 @@ module _ (constraints : List Constraint) (parents : List ℕ) where
           let unlike = not_passed constraints parents start walk.left.next.tail walk.left.rest
           walk.left.climbs walk.left.direct
           walk.left.next.tail walk.left.rest walk.left.climbs walk.left.direct (omega arith) in
-          let before = All-tail (λ (step : Constraint). All
-          (λ (gone : Constraint). step.tail ≢ gone.tail) steps) walk.left.next walk.left.rest
-          walk.left.apart in
+          let before = All-tail (λ (step : Constraint). All (λ (gone : Constraint).
+          step.tail ≢ gone.tail) steps) walk.left.next walk.left.rest walk.left.apart in
           subst (λ (c : Constraint). IsRoundWalk constraints parents after start (at - 1) c.tail)
           same (record {
             gone = next_gone;
             left = left_more after start (at - 1) walk.left.next walk.left.rest walk.left.climbs
-                walk.left.direct on
-                (omega (arith, walk.left.fits))
-                (λ k e within. subst (All (λ (gone : Constraint). (get_or walk.left.rest k e).tail
-                ≢ gone.tail)) (sym whole)
+                walk.left.direct on (omega (arith, walk.left.fits)) (λ k e within. subst (All
+                (λ (gone : Constraint). (get_or walk.left.rest k e).tail ≢ gone.tail)) (sym whole)
                 (All-cons (λ (gone : Constraint). (get_or walk.left.rest k e).tail ≢ gone.tail)
-                walk.left.next steps
-                (λ alike. unlike k e within (sym alike)) (before k e within)));
+                walk.left.next steps (λ alike. unlike k e within (sym alike)) (before k e within)));
           })
 
       -- and where it is back, a cycle is gone by
       pub round_gone : (d : Constraint)
-          → (get_or constraints (get_or parents register 0) d).tail ≡ start
-          → IsGone constraints parents (set places (at - 1) (get_or parents register 0)) start
-          (at - 1) start
+          → (get_or constraints (get_or parents register 0) d).tail ≡ start → IsGone
+          constraints parents (set places (at - 1) (get_or parents register 0)) start (at - 1) start
       round_gone d back = subst (IsGone constraints parents
           (set places (at - 1) (get_or parents register 0)) start (at - 1))
           (ap (λ (c : Constraint). c.tail) (sym (read_step d)) ∙ back) next_gone
@@ -248,19 +232,16 @@ module _ (constraints : List Constraint) (parents : List ℕ) where
   -- what is gone by where the walk is back has a cycle's constraints
   pub gone_cycle : (places : List ℕ) (start at : ℕ) → IsGone constraints parents places start at
       start → at < length places → IsCycle (constraints_at constraints (drop at places))
-  gone_cycle places start at gone some =
-      cycle_from_closed (constraints_at constraints (drop at places)) start
-      (omega (
+  gone_cycle places start
+      at gone some = cycle_from_closed (constraints_at constraints (drop at places)) start (omega (
         arith,
         length-constraints_at constraints (drop at places) gone.within,
-        length-drop at
-            places,
+        length-drop at places,
       )) gone.leads gone.once
 
   -- and a total above 0
   pub gone_gains : (places : List ℕ) (start at : ℕ) → IsGone constraints parents places start at
       start → at < length places → (trial : Gains) (values : List ℤ) → AreParents constraints trial
       values parents → pos 0 <ℤ total_gain trial (constraints_at constraints (drop at places))
-  gone_gains places start at gone some trial values are =
-      subst (λ total. pos 0 <ℤ total) (gone.gained trial)
-      (are.rings start gone.climbed (omega (arith, gone.long)) gone.climbs)
+  gone_gains places start at gone some trial values are = subst (λ total. pos 0 <ℤ total)
+      (gone.gained trial) (are.rings start gone.climbed (omega (arith, gone.long)) gone.climbs)

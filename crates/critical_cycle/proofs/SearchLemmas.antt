@@ -23,8 +23,7 @@ settled_at measure constraints first (Value shown) ratio trial value greatest at
   subst (λ r. SatisfiesRatio measure constraints r value) greatest
       (satisfies_ratio at constraints value satisfies),
 )
-settled_at measure constraints first Never ratio trial value greatest at satisfies =
-    absurd greatest
+settled_at measure constraints first Never ratio trial value greatest at satisfies = absurd greatest
 
 -- both outcomes of a trial
 pub outcome : (P Q : Type 0) (R S : ℕ → Type 0) (result : Option ℕ) → (P → Q)
@@ -34,9 +33,8 @@ outcome P Q R S (Some register) left right here = right register here
 
 -- the first ratio is no greater than the greatest shown
 first_below : (measure : Measure) (constraints : List Constraint) (first : Fraction)
-    (cycle : List ℕ) (shown : Shown) (ratio : Fraction)
-    → IsShown measure constraints first cycle shown → IsGreatestShown first shown ratio
-    → (first.num *ℤ ratio.den) ≤ℤ (ratio.num *ℤ first.den)
+    (cycle : List ℕ) (shown : Shown) (ratio : Fraction) → IsShown measure constraints first cycle
+    shown → IsGreatestShown first shown ratio → (first.num *ℤ ratio.den) ≤ℤ (ratio.num *ℤ first.den)
 first_below measure constraints first cycle First ratio is greatest =
     rw greatest (no_less (first.num *ℤ first.den))
   where
@@ -53,9 +51,8 @@ first_below measure constraints first cycle Never ratio is greatest = absurd gre
 above_first : (first num value : ℤ) (whole den size : ℕ) → 1 ≤ whole
     → (first *ℤ pos den) ≤ℤ (num *ℤ pos whole) → (num *ℤ pos size) <ℤ (value *ℤ pos den)
     → (first *ℤ pos size) <ℤ (value *ℤ pos whole)
-above_first first num value whole den size some low above =
-    by_lt_z (first *ℤ pos size) (value *ℤ pos whole) (λ more. more)
-    (λ less.
+above_first first num value whole den
+    size some low above = by_lt_z (first *ℤ pos size) (value *ℤ pos whole) (λ more. more) (λ less.
     let under : up value * whole + down first * size ≤ down value * whole + up first * size =
     omega (arith, ints) in
     let least : up first * den + down num * whole ≤ down first * den + up num * whole =
@@ -87,9 +84,8 @@ not_kept measure ratio trial steps raise.Never at gains never is = cc
 
 -- a ratio that is shown can be tried
 pub can_try : (measure : Measure) (constraints : List Constraint) (first : Fraction)
-    (cycle : List ℕ) (shown : Shown) (ratio : Fraction) → CanTry measure first
-    → IsShown measure constraints first cycle shown → IsGreatestShown first shown ratio
-    → CanTry measure ratio
+    (cycle : List ℕ) (shown : Shown) (ratio : Fraction) → CanTry measure first → IsShown
+    measure constraints first cycle shown → IsGreatestShown first shown ratio → CanTry measure ratio
 can_try measure constraints first cycle First ratio small is greatest =
     subst (CanTry measure) (sym greatest) small
 can_try measure constraints first cycle (Value value) ratio small is greatest =
@@ -97,13 +93,12 @@ can_try measure constraints first cycle (Value value) ratio small is greatest =
 can_try measure constraints first cycle Never ratio small is greatest = absurd greatest
 
 -- a cycle that the ratio isn't enough for shows more, and leaves fewer raises
-pub raise_shows : (measure : Measure) (constraints : List Constraint) (first : Fraction)
-    (before cycle : List ℕ) (old new : Shown) (ratio : Fraction) (says : Raise)
-    → CanTry measure first → IsShown measure constraints first before old
-    → IsGreatestShown first old ratio → AreWithin constraints cycle
-    → IsCycle (constraints_at constraints cycle) → (says ≡ raise.Keep → ⊥)
-    → IsRaise measure ratio (constraints_at constraints cycle) says → IsRaisedBy says old new
-    → IsShown measure constraints first cycle new
+pub raise_shows : (measure : Measure) (constraints : List Constraint)
+    (first : Fraction) (before cycle : List ℕ) (old new : Shown) (ratio : Fraction) (says : Raise)
+    → CanTry measure first → IsShown measure constraints first before old → IsGreatestShown
+    first old ratio → AreWithin constraints cycle → IsCycle (constraints_at constraints cycle)
+    → (says ≡ raise.Keep → ⊥) → IsRaise measure ratio (constraints_at constraints cycle) says
+    → IsRaisedBy says old new → IsShown measure constraints first cycle new
     × (raises_left measure first new < raises_left measure first old)
 raise_shows measure constraints first before cycle old new ratio raise.Keep small is greatest
     within is_cycle goes_on keep by =

@@ -4,21 +4,18 @@ use Rattle.critical_cycle.proofs.PlaceLemmas.{constraints_at-cons, length-constr
 use Rattle.critical_cycle.proofs.Turns.{total_weight-append}
 
 -- one more place is one more constraint
-constraints_at-more : (constraints : List Constraint) (cycle : List ℕ) (i : ℕ) (d : Constraint)
-    → i < length cycle → AreWithin constraints cycle
-    → constraints_at constraints (take (i + 1) cycle)
+constraints_at-more : (constraints : List Constraint) (cycle : List ℕ) (i : ℕ) (d : Constraint) → i
+    < length cycle → AreWithin constraints cycle → constraints_at constraints (take (i + 1) cycle)
     ≡ constraints_at constraints (take i cycle) ++ get_or constraints (get_or cycle i 0) d ∷ []
-constraints_at-more constraints cycle i d more within =
-    ap (constraints_at constraints) (take_more cycle i 0 more)
-    ∙ filter_map-append (slice_get constraints) (take i cycle) (get_or cycle i 0 ∷ [])
-    ∙ ap (λ cs. constraints_at constraints (take i cycle) ++ cs)
+constraints_at-more constraints cycle i d more within = ap (constraints_at constraints)
+    (take_more cycle i 0 more) ∙ filter_map-append (slice_get constraints) (take i cycle)
+    (get_or cycle i 0 ∷ []) ∙ ap (λ cs. constraints_at constraints (take i cycle) ++ cs)
     (constraints_at-cons constraints (get_or cycle i 0) [] d (within i 0 more))
 
 -- its weight is added
-pub weight_more : (constraints : List Constraint) (cycle : List ℕ) (i : ℕ) (d : Constraint)
-    (sum more : ℤ) → i < length cycle → AreWithin constraints cycle
-    → sum ≡ total_weight (constraints_at constraints (take i cycle))
-    → more ≡ sum +ℤ (get_or constraints (get_or cycle i 0) d).weight
+pub weight_more : (constraints : List Constraint) (cycle : List ℕ) (i : ℕ) (d : Constraint) (sum
+    more : ℤ) → i < length cycle → AreWithin constraints cycle → sum ≡ total_weight (constraints_at
+    constraints (take i cycle)) → more ≡ sum +ℤ (get_or constraints (get_or cycle i 0) d).weight
     → more ≡ total_weight (constraints_at constraints (take (i + 1) cycle))
 weight_more constraints cycle i d sum more inside within is next =
     let last = get_or constraints (get_or cycle i 0) d in
@@ -31,11 +28,10 @@ weight_more constraints cycle i d sum more inside within is next =
     alone a = omega (arith, ints)
 
 -- and its count
-pub count_more : (constraints : List Constraint) (cycle : List ℕ) (i : ℕ) (d : Constraint)
-    (sum more : ℤ) → i < length cycle → AreWithin constraints cycle
-    → sum ≡ pos (total_count (constraints_at constraints (take i cycle)))
-    → more ≡ sum +ℤ pos (count_of (get_or constraints (get_or cycle i 0) d))
-    → more ≡ pos (total_count (constraints_at constraints (take (i + 1) cycle)))
+pub count_more : (constraints : List Constraint) (cycle : List ℕ) (i : ℕ) (d : Constraint) (sum more
+    : ℤ) → i < length cycle → AreWithin constraints cycle → sum ≡ pos (total_count (constraints_at
+    constraints (take i cycle))) → more ≡ sum +ℤ pos (count_of (get_or constraints (get_or
+    cycle i 0) d)) → more ≡ pos (total_count (constraints_at constraints (take (i + 1) cycle)))
 count_more constraints cycle i d sum more inside within is next =
     let last = get_or constraints (get_or cycle i 0) d in
     let whole = ap total_count (constraints_at-more constraints cycle i d inside within)
@@ -94,11 +90,8 @@ small_sums constraints cycle within few small =
     }
 
 -- also part of the way
-pub part_small : (constraints : List Constraint) (cycle : List ℕ) (i : ℕ)
-    → AreWithin constraints cycle
-    → length cycle ≤ 4097 → All (λ constraint. IsBelow (10 ^ 11) constraint.weight) constraints
-    → AreSmallSums (constraints_at constraints (take i cycle))
-part_small constraints cycle i within few small =
-    small_sums constraints (take i cycle)
-    (All-take (λ place. place < length constraints) i cycle within)
-    (omega (arith, length-take i cycle)) small
+pub part_small : (constraints : List Constraint) (cycle : List ℕ) (i : ℕ) → AreWithin constraints
+    cycle → length cycle ≤ 4097 → All (λ constraint. IsBelow (10 ^ 11) constraint.weight)
+    constraints → AreSmallSums (constraints_at constraints (take i cycle))
+part_small constraints cycle i within few small = small_sums constraints (take i cycle) (All-take
+    (λ place. place < length constraints) i cycle within) (omega (arith, length-take i cycle)) small

@@ -3,21 +3,18 @@ use Rattle.critical_cycle.proofs.Vocabulary.{ℕ, ◌≡◌, ◌≢◌, ◌<◌,
 use Rattle.critical_cycle.proofs.PlaceLemmas.{from_lowest}
 
 -- the lowest tail comes first where the cycle is rotated to it
-pub rotated_from_lowest : (constraints : List Constraint) (cycle rotated : List ℕ) (turn : ℕ)
-    → AreWithin constraints cycle → turn < length cycle → rotated ≡ drop turn cycle
-    ++ take turn cycle
-    → ((other : ℕ) → other < length cycle
-    → tail_at constraints (slice_index cycle turn) ≤ tail_at constraints (slice_index cycle other))
-    → IsFromLowest (constraints_at constraints rotated)
+pub rotated_from_lowest : (constraints : List Constraint) (cycle rotated : List ℕ) (turn : ℕ) →
+    AreWithin constraints cycle → turn < length cycle → rotated ≡ drop turn cycle ++ take turn cycle
+    → ((other : ℕ) → other < length cycle → tail_at constraints (slice_index cycle turn) ≤ tail_at
+    constraints (slice_index cycle other)) → IsFromLowest (constraints_at constraints rotated)
 rotated_from_lowest constraints cycle rotated turn within inside is lowest =
     let first = slice_index cycle turn in
     let back = drop (turn + 1) cycle ++ take turn cycle in
     let parts : rotated ≡ first ∷ back = is ∙ ap (λ l. l ++ take turn cycle)
     (drop_more cycle turn 0 inside) in
-    let kept : (P : ℕ → Type 0) → All P cycle → All P (first ∷ back) =
-    λ P each. subst (All P) (sym is ∙ parts)
-    (All-append P (drop turn cycle) (take turn cycle) (All-drop P turn cycle each)
-    (All-take P turn cycle each)) in
+    let kept : (P : ℕ → Type 0) → All P cycle → All
+    P (first ∷ back) = λ P each. subst (All P) (sym is ∙ parts) (All-append P (drop turn cycle)
+    (take turn cycle) (All-drop P turn cycle each) (All-take P turn cycle each)) in
     let Above : ℕ → Type 0 = λ n. tail_at constraints first ≤ tail_at constraints n in
     subst (λ ps. IsFromLowest (constraints_at constraints ps)) (sym parts)
     (from_lowest constraints first back (kept (λ n. n < length constraints) within)
@@ -44,9 +41,8 @@ closed [] is_cycle = absurd is_cycle.closed
 closed (first ∷ cycle) is_cycle = (first.tail, omega arith, is_cycle.closed)
 
 -- constraints that lead back to their first register, with no tail twice, are a cycle
-pub cycle_from_closed : (cycle : List Constraint) (start : ℕ) → 0 < length cycle
-    → Leads start cycle start
-    → AllPairs (λ first second. first.tail ≢ second.tail) cycle → IsCycle cycle
+pub cycle_from_closed : (cycle : List Constraint) (start : ℕ) → 0 < length cycle → Leads
+    start cycle start → AllPairs (λ first second. first.tail ≢ second.tail) cycle → IsCycle cycle
 cycle_from_closed [] start some leads once = absurd (omega arith)
 cycle_from_closed (first ∷ cycle) start some leads once = record {
   closed = (refl, subst (λ r. Leads first.head cycle r) (sym leads.0) leads.1);
@@ -54,23 +50,18 @@ cycle_from_closed (first ∷ cycle) start some leads once = record {
 }
 
 -- no tail comes twice in the rotated list either
-once_rotated : (prefix back : List Constraint)
-    → AllPairs (λ first second. first.tail ≢ second.tail) (prefix ++ back)
-    → AllPairs (λ first second. first.tail ≢ second.tail) (back ++ prefix)
+once_rotated : (prefix back : List Constraint) → AllPairs (λ first second. first.tail ≢ second.tail)
+    (prefix ++ back) → AllPairs (λ first second. first.tail ≢ second.tail) (back ++ prefix)
 once_rotated prefix back once i j d before within same =
     let size : j < length back + length prefix = omega (arith, length-append back prefix) in
     let whole : length (prefix ++ back) ≡ length prefix + length back = length-append prefix back in
-    ⊎_elim
-    (λ low. once (length prefix + i) (length prefix + j) d (omega arith) (omega arith)
-    (tail (suffix i) ∙ sym (tail (ahead i (omega arith))) ∙ same ∙ tail (ahead j low)
-    ∙ sym (tail (suffix j))))
-    (λ high. ⊎_elim
-    (λ low. once (j - length back) (length prefix + i) d (omega arith) (omega arith)
-    (sym (tail (wrapped j high size)) ∙ sym same ∙ tail (ahead i low) ∙ sym (tail (suffix i))))
-    (λ over. once (i - length back) (j - length back) d (omega arith) (omega arith)
-    (sym (tail (wrapped i over (omega arith))) ∙ same ∙ tail (wrapped j high size)))
-    (cases_lt i (length back)))
-    (cases_lt j (length back))
+    ⊎_elim (λ low. once (length prefix + i) (length prefix + j) d (omega arith)
+    (omega arith) (tail (suffix i) ∙ sym (tail (ahead i (omega arith))) ∙ same ∙ tail (ahead j low)
+    ∙ sym (tail (suffix j)))) (λ high. ⊎_elim (λ low. once (j - length back) (length prefix + i)
+    d (omega arith) (omega arith) (sym (tail (wrapped j high size)) ∙ sym same ∙ tail (ahead i low)
+    ∙ sym (tail (suffix i)))) (λ over. once (i - length back) (j - length back) d (omega arith)
+    (omega arith) (sym (tail (wrapped i over (omega arith))) ∙ same ∙ tail (wrapped j high size)))
+    (cases_lt i (length back))) (cases_lt j (length back))
   where
     tail : {a b : Constraint} → a ≡ b → a.tail ≡ b.tail
     tail same = ap (λ (c : Constraint). c.tail) same
@@ -93,9 +84,8 @@ cycle_rotated prefix back is_cycle =
     let whole = closed (prefix ++ back) is_cycle in
     let parts = leads_parts whole.0 prefix back whole.0 whole.2 in
     cycle_from_closed (back ++ prefix) parts.0
-    (omega (arith, length-append prefix back, length-append back prefix, whole.1))
-    (leads_joined parts.0 back prefix whole.0 parts.0 parts.2 parts.1)
-    (once_rotated prefix back is_cycle.once)
+    (omega (arith, length-append prefix back, length-append back prefix, whole.1)) (leads_joined
+    parts.0 back prefix whole.0 parts.0 parts.2 parts.1) (once_rotated prefix back is_cycle.once)
 
 -- the weights of two parts
 pub total_weight-append : (prefix back : List Constraint)
@@ -104,9 +94,8 @@ total_weight-append [] back = nothing (total_weight back)
   where
     nothing : (a : ℤ) → a ≡ pos 0 +ℤ a
     nothing a = omega (arith, ints)
-total_weight-append (first ∷ prefix) back =
-    joined first.weight (total_weight (prefix ++ back)) (total_weight prefix) (total_weight back)
-    (total_weight-append prefix back)
+total_weight-append (first ∷ prefix) back = joined first.weight (total_weight (prefix ++ back))
+    (total_weight prefix) (total_weight back) (total_weight-append prefix back)
   where
     joined : (a b c d : ℤ) → b ≡ c +ℤ d → a +ℤ b ≡ (a +ℤ c) +ℤ d
     joined a b c d is = omega (arith, ints)
@@ -127,10 +116,9 @@ module _ (constraints : List Constraint) (cycle rotated : List ℕ) (turn : ℕ)
   -- are a cycle
   pub rotated_cycle : IsCycle (constraints_at constraints cycle)
       → IsCycle (constraints_at constraints rotated)
-  rotated_cycle is_cycle = subst IsCycle (sym swapped)
-      (cycle_rotated (constraints_at constraints (take turn cycle))
-      (constraints_at constraints (drop turn cycle))
-      (subst IsCycle parted is_cycle))
+  rotated_cycle is_cycle
+      = subst IsCycle (sym swapped) (cycle_rotated (constraints_at constraints (take turn cycle))
+      (constraints_at constraints (drop turn cycle)) (subst IsCycle parted is_cycle))
 
   -- have the same weights
   pub rotated_weight : total_weight (constraints_at constraints rotated)
@@ -138,9 +126,8 @@ module _ (constraints : List Constraint) (cycle rotated : List ℕ) (turn : ℕ)
   rotated_weight =
       let prefix = constraints_at constraints (take turn cycle) in
       let back = constraints_at constraints (drop turn cycle) in
-      ap total_weight swapped ∙ total_weight-append back prefix
-      ∙ rotated_sum (total_weight back) (total_weight prefix)
-      ∙ sym (ap total_weight parted ∙ total_weight-append prefix back)
+      ap total_weight swapped ∙ total_weight-append back prefix ∙ rotated_sum (total_weight back)
+      (total_weight prefix) ∙ sym (ap total_weight parted ∙ total_weight-append prefix back)
     where
       rotated_sum : (a b : ℤ) → a +ℤ b ≡ b +ℤ a
       rotated_sum a b = omega (arith, ints)

@@ -6,9 +6,8 @@ use Rattle.relaxation.proofs.Climbs.{climbs_push}
 pub parent_read : (constraints : List Constraint) (parents : List ℕ) (register place : ℕ)
     → register < length parents → place ≡ get_or parents register place
     → parent_of constraints parents register ≡ slice_get constraints place
-parent_read constraints parents register place within read =
-    ap (option_and_then (slice_get constraints)) (slice_get_read parents (length parents) register
-    place refl within read)
+parent_read constraints parents register place within read = ap (option_and_then (slice_get
+    constraints)) (slice_get_read parents (length parents) register place refl within read)
 
 -- where a climb of so many steps stands, and how each climb goes on that has as many steps as there
 -- are registers
@@ -17,17 +16,15 @@ pub record IsClimbing (constraints : List Constraint) (parents : List ℕ)
   pub above : List Constraint
   pub long : length above ≡ count
   pub climb : Climbs constraints parents from above register
-  pub rest : (to : ℕ) (whole : List Constraint) → length whole ≡ length parents
-      → Climbs constraints parents from whole to
-      → (more : List Constraint) × (length more + count ≡ length parents)
-      × Climbs constraints parents register more to
+  pub rest : (to : ℕ) (whole : List Constraint) → length whole
+      ≡ length parents → Climbs constraints parents from whole to → (more : List Constraint)
+      × (length more + count ≡ length parents) × Climbs constraints parents register more to
 
 module _ {constraints : List Constraint} {parents : List ℕ} {from count register : ℕ}
     (climbing : IsClimbing constraints parents from count register) where
   -- one step more
-  pub IsClimbing-more : (parent : Constraint) → count < length parents
-      → parent_of constraints parents register ≡ Some parent
-      → IsClimbing constraints parents from (count + 1) parent.tail
+  pub IsClimbing-more : (parent : Constraint) → count < length parents → parent_of constraints
+      parents register ≡ Some parent → IsClimbing constraints parents from (count + 1) parent.tail
   IsClimbing-more parent inside here = record {
     above = climbing.above ++ parent ∷ [];
     long = length_push climbing.above parent ∙ ap (λ n. n + 1) climbing.long;
@@ -39,9 +36,8 @@ module _ {constraints : List Constraint} {parents : List ℕ} {from count regist
     where
       -- what is left of a climb, but for that step
       goes_on : (to : ℕ) (more : List Constraint) → length more + count ≡ length parents
-          → Climbs constraints parents register more to
-          → (later : List Constraint) × (length later + (count + 1) ≡ length parents)
-          × Climbs constraints parents parent.tail later to
+          → Climbs constraints parents register more to → (later : List Constraint) × (length
+          later + (count + 1) ≡ length parents) × Climbs constraints parents parent.tail later to
       goes_on to [] long climb = absurd (omega arith)
       goes_on to (first ∷ later) long (begin, climb) = (
         later,

@@ -32,12 +32,10 @@ pub scaled_fits : (value scale : ℤ) → IsBelow (2 ^ 88) value → pos 1 ≤�
 scaled_fits value scale small some fine =
     let first : FitsSigned w128 value = omega (arith, ints, small.above, small.below) in
     let second : FitsSigned w128 scale = omega (arith, ints) in
-    let size : unsigned_abs value ≤ 2 ^ 88 =
-    size_within (2 ^ 88) value (omega (arith, ints, small.above))
-    (omega (arith, ints, small.below)) in
-    let fits : FitsSigned w128 (value *ℤ scale) =
-    fits_signed_mul w128 value scale (2 ^ 88) 409700000000 size
-    (size_within 409700000000 scale (omega (arith, ints)) fine) (omega arith) in
+    let size : unsigned_abs value ≤ 2 ^ 88 = size_within
+    (2 ^ 88) value (omega (arith, ints, small.above)) (omega (arith, ints, small.below)) in
+    let fits : FitsSigned w128 (value *ℤ scale) = fits_signed_mul w128 value scale (2 ^ 88)
+    409700000000 size (size_within 409700000000 scale (omega (arith, ints)) fine) (omega arith) in
     subst (FitsSigned w128) (sym (product_read value scale first second)) fits
 
 -- and does so as the code keeps it
@@ -60,20 +58,21 @@ module _ (gains : Gains) (weight : ℤ) (small : IsBelow (10 ^ 11) weight) where
 
   -- the product of the two is small
   asked_small : IsBelow (2 ^ 76) (gains.scale *ℤ weight)
-  asked_small = below_size 40970000000000000000000 (2 ^ 76) (gains.scale *ℤ weight)
-      (omega (
-        arith,
-        unsigned_abs-mul gains.scale weight,
-        mul-le (unsigned_abs gains.scale) (unsigned_abs weight) 409700000000 100000000000 scale_size
-            weight_size,
-      ))
-      (omega arith)
+  asked_small = below_size 40970000000000000000000 (2 ^ 76) (gains.scale *ℤ weight) (omega (
+    arith,
+    unsigned_abs-mul gains.scale weight,
+    mul-le (unsigned_abs gains.scale) (unsigned_abs weight) 409700000000 100000000000 scale_size
+        weight_size,
+  )) (omega arith)
 
   -- the code's product
   scale_read : kept gains.scale *ℤ kept weight ≡ gains.scale *ℤ weight
-  scale_read = product_read gains.scale weight
-      (omega (arith, ints, gains.valid.some, gains.valid.fine))
-      (omega (arith, ints, small.above, small.below))
+  scale_read = product_read gains.scale weight (omega (
+    arith,
+    ints,
+    gains.valid.some,
+    gains.valid.fine,
+  )) (omega (arith, ints, small.above, small.below))
 
   -- it fits
   pub asked_fits : FitsSigned w128 (kept gains.scale *ℤ kept weight)
@@ -90,8 +89,7 @@ module _ (gains : Gains) (weight : ℤ) (small : IsBelow (10 ^ 11) weight) where
     -- the code's difference
     difference_read : kept (kept gains.scale *ℤ kept weight) -ℤ kept less
         ≡ (gains.scale *ℤ weight) -ℤ less
-    difference_read = ap (λ z. z -ℤ kept less) asked_read
-        ∙ ap (λ z. (gains.scale *ℤ weight) -ℤ z)
+    difference_read = ap (λ z. z -ℤ kept less) asked_read ∙ ap (λ z. (gains.scale *ℤ weight) -ℤ z)
         (to_z-of_z w128 less (omega (arith, ints, less_small.above, less_small.below)))
 
     -- it is small
@@ -119,18 +117,16 @@ module _ (gains : Gains) (weight : ℤ) (small : IsBelow (10 ^ 11) weight) where
         ∙ difference_read
 
 -- what the code answers for a setup constraint is its gain
-pub setup_gain : (gains : Gains) (constraint : Constraint) → constraint.setup ≡ true
-    → IsBelow (10 ^ 11) constraint.weight
-    → kept (kept (kept gains.scale *ℤ kept constraint.weight) -ℤ kept gains.setup)
-    ≡ gain_of gains constraint
+pub setup_gain : (gains : Gains) (constraint : Constraint)
+    → constraint.setup ≡ true → IsBelow (10 ^ 11) constraint.weight → kept (kept
+    (kept gains.scale *ℤ kept constraint.weight) -ℤ kept gains.setup) ≡ gain_of gains constraint
 setup_gain gains constraint setup small =
     less_read gains constraint.weight small gains.setup gains.valid.setup ∙ rw setup refl
 
 -- and so it is for a hold constraint
-pub hold_gain : (gains : Gains) (constraint : Constraint) → constraint.setup ≡ false
-    → IsBelow (10 ^ 11) constraint.weight
-    → kept (kept (kept gains.scale *ℤ kept constraint.weight) -ℤ kept gains.hold)
-    ≡ gain_of gains constraint
+pub hold_gain : (gains : Gains) (constraint : Constraint)
+    → constraint.setup ≡ false → IsBelow (10 ^ 11) constraint.weight → kept (kept
+    (kept gains.scale *ℤ kept constraint.weight) -ℤ kept gains.hold) ≡ gain_of gains constraint
 hold_gain gains constraint hold small =
     less_read gains constraint.weight small gains.hold gains.valid.hold ∙ rw hold refl
 

@@ -1,4 +1,5 @@
 mod Vocabulary
+mod SetLemmas
 pub mod GainLemmas
 pub mod RelaxLemmas
 mod ParentLemmas

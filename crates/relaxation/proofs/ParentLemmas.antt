@@ -24,18 +24,15 @@ slice_get-set_other (x ∷ xs) (suc i) (suc j) y apart =
 
 -- the entry that is set
 slice_get-set_same : (xs : List ℕ) (i y : ℕ) → i < length xs → slice_get (set xs i y) i ≡ Some y
-slice_get-set_same xs i y within =
-    slice_get-get_or (set xs i y) i 0 (omega (arith, length-set xs i y))
-    ∙ ap Some (get_or-set_same xs i y 0 within)
+slice_get-set_same xs i y within = slice_get-get_or
+    (set xs i y) i 0 (omega (arith, length-set xs i y)) ∙ ap Some (get_or-set_same xs i y 0 within)
 
 -- setting a value and a parent is such a raise
 pub IsRaise-set : (constraints : List Constraint) (gains : Gains) (place : ℕ)
-    (constraint : Constraint) (values : List ℤ) (parents : List ℕ)
-    → slice_get constraints place ≡ Some constraint → constraint.head < length values
-    → constraint.head < length parents → GivesMore gains values constraint
-    → IsRaise constraints gains constraint values parents
-    (set values constraint.head (offer_of gains values constraint))
-    (set parents constraint.head place)
+    (constraint : Constraint) (values : List ℤ) (parents : List ℕ) → slice_get constraints place
+    ≡ Some constraint → constraint.head < length values → constraint.head < length parents
+    → GivesMore gains values constraint → IsRaise constraints gains constraint values parents (set
+    values constraint.head (offer_of gains values constraint)) (set parents constraint.head place)
 IsRaise-set constraints gains place constraint values parents at within parent_within more =
     record {
       more = more;
@@ -49,51 +46,6 @@ IsRaise-set constraints gains place constraint values parents at within parent_w
           (slice_get-set_other parents constraint.head register place apart);
     }
 
--- two steps that don't lose don't lose together
-not_more : (from via gain to total : ℤ) → from ≤ℤ (via +ℤ gain) → via ≤ℤ (to +ℤ total)
-    → from ≤ℤ (to +ℤ (gain +ℤ total))
-not_more from via gain to total first second = omega (arith, ints)
-
--- where the first of two gains, both do
-less_first : (from via gain to total : ℤ) → from <ℤ (via +ℤ gain) → via ≤ℤ (to +ℤ total)
-    → from <ℤ (to +ℤ (gain +ℤ total))
-less_first from via gain to total first second = omega (arith, ints)
-
--- and so they do where the second gains
-less_then : (from via gain to total : ℤ) → from ≤ℤ (via +ℤ gain) → via <ℤ (to +ℤ total)
-    → from <ℤ (to +ℤ (gain +ℤ total))
-less_then from via gain to total first second = omega (arith, ints)
-
--- no step loses nothing
-at_most_itself : (z : ℤ) → z ≤ℤ (z +ℤ pos 0)
-at_most_itself z = omega (arith, ints)
-
--- who comes back with more than nothing has gained
-above_none : (z total : ℤ) → z <ℤ (z +ℤ total) → pos 0 <ℤ total
-above_none z total less = omega (arith, ints)
-
--- less is at most
-weaker : (a b : ℤ) → a <ℤ b → a ≤ℤ b
-weaker a b less = omega (arith, ints)
-
--- a value that stays isn't less
-not_less : (old new : ℤ) → new ≡ old → old ≤ℤ new
-not_less old new same = omega (arith, ints)
-
--- a value that is raised isn't less
-below_offer : (old new offer : ℤ) → old <ℤ offer → new ≡ offer → old ≤ℤ new
-below_offer old new offer more here = omega (arith, ints)
-
--- what was given before is given still, as the tail only rises
-below_sum : (value later from to gain : ℤ) → value ≤ℤ (from +ℤ gain) → later ≡ value → from ≤ℤ to
-    → later ≤ℤ (to +ℤ gain)
-below_sum value later from to gain given same rises = omega (arith, ints)
-
--- what was offered is given still
-offer_below : (offer later from to gain : ℤ) → offer ≡ from +ℤ gain → later ≡ offer → from ≤ℤ to
-    → later ≤ℤ (to +ℤ gain)
-offer_below offer later from to gain is same rises = omega (arith, ints)
-
 module _ {constraints : List Constraint} {gains : Gains} {constraint : Constraint} {values : List ℤ}
     {parents : List ℕ} {later : List ℤ} {later_parents : List ℕ}
     (raise : IsRaise constraints gains constraint values parents later later_parents) where
@@ -101,8 +53,8 @@ module _ {constraints : List Constraint} {gains : Gains} {constraint : Constrain
   pub rises : (register : ℕ) → value_of values register ≤ℤ value_of later register
   rises register = elim (cases_eq register constraint.head) [
     | inl same ↦ subst (λ r. value_of values r ≤ℤ value_of later r) (sym same)
-        (below_offer _ _ _ raise.more raise.here)
-    | inr other ↦ not_less _ _ (raise.others register other)
+        (omega (arith, ints, raise.more, raise.here))
+    | inr other ↦ omega (arith, ints, raise.others register other)
   ]
 
   module _ (before : AreParents constraints gains values parents) where
@@ -112,20 +64,17 @@ module _ {constraints : List Constraint} {gains : Gains} {constraint : Constrain
     is_constraint parent here = same_Some constraint parent (sym raise.parent ∙ here)
 
     -- by the values before, no register has more than its parent gives it
-    gave : (register : ℕ) (parent : Constraint)
-        → parent_of constraints later_parents register ≡ Some parent
-        → (value_of values register <ℤ (value_of values parent.tail +ℤ gain_of gains parent))
-        ⊎ ((parent_of constraints parents register ≡ Some parent)
+    gave : (register : ℕ) (parent : Constraint) → parent_of constraints later_parents register
+        ≡ Some parent → (value_of values register <ℤ (value_of values parent.tail
+        +ℤ gain_of gains parent)) ⊎ ((parent_of constraints parents register ≡ Some parent)
         × (value_of values register ≤ℤ (value_of values parent.tail +ℤ gain_of gains parent)))
     gave register parent here = elim (cases_eq register constraint.head) [
       | inl same ↦
           let at_head : parent_of constraints later_parents constraint.head ≡ Some parent =
           subst (λ r. parent_of constraints later_parents r ≡ Some parent) same here in
-          inl (subst (λ r. value_of values r
-          <ℤ (value_of values parent.tail +ℤ gain_of gains parent)) (sym same)
-          (subst (λ (c : Constraint). value_of values constraint.head
-          <ℤ (value_of values c.tail +ℤ gain_of gains c)) (is_constraint parent at_head)
-          raise.more))
+          inl (subst (λ r. value_of values r <ℤ (value_of values parent.tail +ℤ gain_of
+          gains parent)) (sym same) (subst (λ (c : Constraint). value_of values constraint.head <ℤ
+          (value_of values c.tail +ℤ gain_of gains c)) (is_constraint parent at_head) raise.more))
       | inr other ↦
           let was : parent_of constraints parents register ≡ Some parent =
           sym (raise.kept register other) ∙ here in
@@ -133,35 +82,31 @@ module _ {constraints : List Constraint} {gains : Gains} {constraint : Constrain
     ]
 
     -- whoever climbs has gained, or climbs parents of before
-    climb_gains : (from : ℕ) (above : List Constraint) (to : ℕ)
-        → Climbs constraints later_parents from above to
-        → (value_of values from <ℤ (value_of values to +ℤ total_gain gains above))
+    climb_gains : (from : ℕ) (above : List Constraint) (to : ℕ) → Climbs constraints later_parents
+        from above to → (value_of values from <ℤ (value_of values to +ℤ total_gain gains above))
         ⊎ (Climbs constraints parents from above to
         × (value_of values from ≤ℤ (value_of values to +ℤ total_gain gains above)))
-    climb_gains from [] to same =
-        inr (
-          same,
-          subst (λ r. value_of values from ≤ℤ (value_of values r +ℤ pos 0)) same
-              (at_most_itself (value_of values from)),
-        )
+    climb_gains from [] to same = inr (
+      same,
+      subst (λ r. value_of values from ≤ℤ (value_of values r +ℤ pos 0)) same
+          (omega (arith, ints)),
+    )
     climb_gains from (parent ∷ above) to (here, climb) =
         joined (gave from parent here) (climb_gains parent.tail above to climb)
       where
         -- of the first step and the rest
         joined : ((value_of values from <ℤ (value_of values parent.tail +ℤ gain_of gains parent))
-            ⊎ ((parent_of constraints parents from ≡ Some parent)
-            × (value_of values from ≤ℤ (value_of values parent.tail +ℤ gain_of gains parent))))
-            → ((value_of values parent.tail <ℤ (value_of values to +ℤ total_gain gains above))
-            ⊎ (Climbs constraints parents parent.tail above to
-            × (value_of values parent.tail ≤ℤ (value_of values to +ℤ total_gain gains above))))
-            → (value_of values from <ℤ (value_of values to +ℤ total_gain gains (parent ∷ above)))
-            ⊎ (Climbs constraints parents from (parent ∷ above) to
-            × (value_of values from
-            ≤ℤ (value_of values to +ℤ total_gain gains (parent ∷ above))))
-        joined (inl less) (inl rest) = inl (less_first _ _ _ _ _ less (weaker _ _ rest))
-        joined (inl less) (inr rest) = inl (less_first _ _ _ _ _ less rest.1)
-        joined (inr first) (inl rest) = inl (less_then _ _ _ _ _ first.1 rest)
-        joined (inr first) (inr rest) = inr ((first.0, rest.0), not_more _ _ _ _ _ first.1 rest.1)
+            ⊎ ((parent_of constraints parents from ≡ Some parent) × (value_of values from
+            ≤ℤ (value_of values parent.tail +ℤ gain_of gains parent)))) → ((value_of values
+            parent.tail <ℤ (value_of values to +ℤ total_gain gains above)) ⊎ (Climbs constraints
+            parents parent.tail above to × (value_of values parent.tail ≤ℤ (value_of values to +ℤ
+            total_gain gains above)))) → (value_of values from <ℤ (value_of values to +ℤ total_gain
+            gains (parent ∷ above))) ⊎ (Climbs constraints parents from (parent ∷ above) to
+            × (value_of values from ≤ℤ (value_of values to +ℤ total_gain gains (parent ∷ above))))
+        joined (inl less) (inl rest) = inl (omega (arith, ints))
+        joined (inl less) (inr rest) = inl (omega (arith, ints, rest.1))
+        joined (inr first) (inl rest) = inl (omega (arith, ints, first.1))
+        joined (inr first) (inr rest) = inr ((first.0, rest.0), omega (arith, ints, first.1, rest.1))
 
     -- the parents are parents still
     pub AreParents-raise : AreParents constraints gains later later_parents
@@ -171,10 +116,8 @@ module _ {constraints : List Constraint} {gains : Gains} {constraint : Constrain
         heads : (register : ℕ) (parent : Constraint)
             → parent_of constraints later_parents register ≡ Some parent → parent.head ≡ register
         heads register parent here = elim (cases_eq register constraint.head) [
-          | inl same ↦ ap (λ (c : Constraint). c.head)
-              (sym (is_constraint parent
-              (subst (λ r. parent_of constraints later_parents r ≡ Some parent) same here)))
-              ∙ sym same
+          | inl same ↦ ap (λ (c : Constraint). c.head) (sym (is_constraint parent (subst
+              (λ r. parent_of constraints later_parents r ≡ Some parent) same here))) ∙ sym same
           | inr other ↦ before.heads register parent (sym (raise.kept register other) ∙ here)
         ]
 
@@ -187,21 +130,23 @@ module _ {constraints : List Constraint} {gains : Gains} {constraint : Constrain
               let is = is_constraint parent
               (subst (λ r. parent_of constraints later_parents r ≡ Some parent) same here) in
               subst (λ r. value_of later r ≤ℤ (value_of later parent.tail +ℤ gain_of gains parent))
-              (sym same)
-              (subst (λ (c : Constraint). value_of later constraint.head
-              ≤ℤ (value_of later c.tail +ℤ gain_of gains c)) is
-              (offer_below _ _ _ _ _ refl raise.here (rises constraint.tail)))
-          | inr other ↦ below_sum _ _ _ _ _
-              (before.given register parent (sym (raise.kept register other) ∙ here))
-              (raise.others register other) (rises parent.tail)
+              (sym same) (subst (λ (c : Constraint). value_of later constraint.head
+              ≤ℤ (value_of later c.tail +ℤ gain_of gains c))
+              is (omega (arith, ints, raise.here, rises constraint.tail)))
+          | inr other ↦ omega (
+            arith,
+            ints,
+            before.given register parent (sym (raise.kept register other) ∙ here),
+            raise.others register other,
+            rises parent.tail,
+          )
         ]
 
         -- whoever comes back has gained
-        rings : (register : ℕ) (above : List Constraint) → 0 < length above
-            → Climbs constraints later_parents register above register
-            → pos 0 <ℤ total_gain gains above
+        rings : (register : ℕ) (above : List Constraint) → 0 < length above → Climbs
+            constraints later_parents register above register → pos 0 <ℤ total_gain gains above
         rings register above some climb = elim (climb_gains register above register climb) [
-          | inl less ↦ above_none (value_of values register) (total_gain gains above) less
+          | inl less ↦ omega (arith, ints, less)
           | inr old ↦ before.rings register above some old.0
         ]
 

@@ -20,12 +20,11 @@ pub record IsRead (gains : Gains) (constraint : Constraint) (values : List ℤ)
   pub to_is : to ≡ get_or values constraint.head to
 
 -- it is read where the constraint is small
-pub IsRead-at : (constraints : List Constraint) (gains : Gains) (place : ℕ) (values : List ℤ)
-    (from gain to : ℤ) → AreSmallConstraints (length values) constraints
-    → place < length constraints → All (IsBelow (2 ^ 115)) values
-    → from ≡ get_or values (get_or constraints place nowhere).tail from
-    → gain ≡ gain_of gains (get_or constraints place nowhere) → IsBelow (2 ^ 80) gain
-    → to ≡ get_or values (get_or constraints place nowhere).head to
+pub IsRead-at : (constraints : List Constraint) (gains : Gains) (place : ℕ)
+    (values : List ℤ) (from gain to : ℤ) → AreSmallConstraints (length values) constraints
+    → place < length constraints → All (IsBelow (2 ^ 115)) values → from ≡ get_or values (get_or
+    constraints place nowhere).tail from → gain ≡ gain_of gains (get_or constraints place nowhere)
+    → IsBelow (2 ^ 80) gain → to ≡ get_or values (get_or constraints place nowhere).head to
     → IsRead gains (get_or constraints place nowhere) values from gain to
 IsRead-at constraints gains place values from gain to are_small within small from_is gain_is
     gain_small to_is = record {
@@ -79,9 +78,8 @@ module _ {gains : Gains} {constraint : Constraint} {values : List ℤ} {from gai
 
   -- the code's offer is what the constraint gives
   pub offer_read : kept (kept from +ℤ kept gain) ≡ offer_of gains values constraint
-  offer_read = sum_read from gain from_small read.gain_small
-      ∙ (ap (λ z. z +ℤ gain) from_value ∙ ap (λ z. value_of values constraint.tail +ℤ z)
-      read.gain_is)
+  offer_read = sum_read from gain from_small read.gain_small ∙ (ap (λ z. z +ℤ gain) from_value
+      ∙ ap (λ z. value_of values constraint.tail +ℤ z) read.gain_is)
 
   -- and so is the offer
   offer_small : IsBelow (2 ^ 116) (kept (kept from +ℤ kept gain))
@@ -117,10 +115,8 @@ relaxed_left constraints gains place constraint old new here left =
 
 -- the step where the head changes
 pub relaxed_raised : (constraints : List Constraint) (gains : Gains) (place : ℕ)
-    (constraint : Constraint) (old new : Relaxation) (register : ℕ)
-    → slice_get constraints place ≡ Some constraint
-    → IsRaised gains place constraint old register new
+    (constraint : Constraint) (old new : Relaxation) (register : ℕ) → slice_get constraints place
+    ≡ Some constraint → IsRaised gains place constraint old register new
     → IsRelaxed constraints gains place old (Some register) new
-relaxed_raised constraints gains place constraint old new register here raised =
-    subst (λ o. IfSome o (λ (it : Constraint). IsRaised gains place it old register new)) (sym here)
-    raised
+relaxed_raised constraints gains place constraint old new register here raised = subst (λ
+    o. IfSome o (λ (it : Constraint). IsRaised gains place it old register new)) (sym here) raised

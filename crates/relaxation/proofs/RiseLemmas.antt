@@ -1,8 +1,9 @@
 -- How far raises take values: one raise, and raises after raises.
-use Rattle.relaxation.proofs.Vocabulary.{◌≡◌, ◌<◌, ◌≤◌, ◌+◌, ◌*◌, ◌^◌, ◌∙◌, ℕ, ℤ, pos, ◌+ℤ◌, ◌*ℤ◌, neg_ℤ, ◌≤ℤ◌, ◌<ℤ◌, List, length, set, All, Some, inl, inr, sym, subst, refl, arith, slice_get, cases_eq, get_or-set_same, get_or-set_other, get_or_default, length-set, ints, Constraint, IsSmallConstraint, IsBelow, Gains, gain_of, value_of, GivesMore, offer_of, AreRaised, AreRaisedBy}
+use Rattle.relaxation.proofs.Vocabulary.{◌≡◌, ◌<◌, ◌≤◌, ◌+◌, ◌*◌, ◌^◌, ◌∙◌, ℕ, ℤ, pos, ◌+ℤ◌, ◌*ℤ◌, neg_ℤ, ◌≤ℤ◌, ◌<ℤ◌, List, length, set, All, Some, subst, refl, arith, slice_get, get_or_default, length-set, ints, Constraint, IsSmallConstraint, IsBelow, Gains, gain_of, value_of, GivesMore, offer_of, AreRaised, AreRaisedBy}
 use Rattle.cts_model.proofs.ScaleLemmas.{scale-add}
 use Rattle.relaxation.proofs.Climbs.{all_at}
 use Rattle.relaxation.proofs.GainLemmas.{gain_small}
+use Rattle.relaxation.proofs.SetLemmas.{at_set}
 
 -- a greater bound does too
 pub small_wider : (bound more : ℕ) (values : List ℤ) → bound ≤ more → All (IsBelow bound) values
@@ -64,9 +65,8 @@ module _ {constraints : List Constraint} {gains : Gains} where
   small_raised {raises} {old} {new} bound more enough raised small place default within =
       subst (IsBelow more) (get_or_default new place (pos 0) default within)
       (inside _ (raised.raised.low (neg_ℤ (pos bound)) (λ register known.
-      lower _ (small register (pos 0) known)) place within)
-      (raised.high (pos bound) (λ register known. upper _ (small register (pos 0) known)) place
-      within))
+      lower _ (small register (pos 0) known)) place within) (raised.high
+      (pos bound) (λ register known. upper _ (small register (pos 0) known)) place within))
     where
       lower : (z : ℤ) → IsBelow bound z → neg_ℤ (pos bound) ≤ℤ z
       lower z it = omega (arith, ints, it.above)
@@ -94,8 +94,7 @@ stays_high z greatest high = omega (arith, ints)
 -- what satisfies a constraint is at least what the constraint gives
 offered_below : (times : ℕ) (gain from tail head : ℤ) → (pos times *ℤ from) ≤ℤ tail
     → (tail +ℤ (pos times *ℤ gain)) ≤ℤ head → (pos times *ℤ (from +ℤ gain)) ≤ℤ head
-offered_below times gain from tail head low met =
-    omega (arith, ints, scale-add times from gain)
+offered_below times gain from tail head low met = omega (arith, ints, scale-add times from gain)
 
 module _ (gains : Gains) (values : List ℤ) (it : Constraint)
     (small : IsSmallConstraint (length values) it) where
@@ -108,50 +107,38 @@ module _ (gains : Gains) (values : List ℤ) (it : Constraint)
   long = length-set values it.head (offer_of gains values it)
 
   -- what holds of the offer at the head, and of each value elsewhere, holds of all
-  each : (P : ℕ → ℤ → Type 0) → P it.head (offer_of gains values it)
-      → ((register : ℕ) → register < length values → P register (value_of values register))
-      → (register : ℕ) → register < length raised_values
-      → P register (value_of raised_values register)
-  each P at_head elsewhere register within = elim (cases_eq register it.head) [
-    | inl same ↦ subst (λ r. P r (value_of raised_values r)) (sym same)
-        (subst (P it.head) (sym (get_or-set_same values it.head (offer_of gains values it) (pos 0)
-        small.head)) at_head)
-    | inr apart ↦ subst (P register)
-        (sym (get_or-set_other values it.head register (offer_of gains values it) (pos 0) apart))
-        (elsewhere register (omega (arith, long)))
-  ]
+  each : (P : ℕ → ℤ → Type 0) → P it.head (offer_of gains values it) → ((register : ℕ)
+      → register < length values → P register (value_of values register)) → (register : ℕ)
+      → register < length raised_values → P register (value_of raised_values register)
+  each P at_head elsewhere register within = at_set (λ r z. r < length values → P r z) values it.head
+      (offer_of gains values it) (pos 0) small.head (λ known. at_head)
+      (λ r apart known. elsewhere r known) register (omega (arith, long))
 
   -- one raise
-  pub AreRaisedBy-one : (constraints : List Constraint) (place : ℕ)
-      → slice_get constraints place ≡ Some it → GivesMore gains values it
-      → AreRaisedBy constraints gains 1 values raised_values
+  pub AreRaisedBy-one : (constraints : List Constraint) (place : ℕ) → slice_get constraints place
+      ≡ Some it → GivesMore gains values it → AreRaisedBy constraints gains 1 values raised_values
   AreRaisedBy-one constraints place here more = record {
     raised = record {
       registers = long;
-      low = λ least from. each (λ register z. least ≤ℤ z)
-          (offer_low least (value_of values it.head) (offer_of gains values it)
-          (from it.head small.head) more) from;
+      low = λ least from. each (λ register z. least ≤ℤ z) (offer_low least
+          (value_of values it.head) (offer_of gains values it) (from it.head small.head) more) from;
       below = λ times other satisfied low. each (λ register z. (pos times *ℤ z) ≤ℤ other register)
-          (offered_below times (gain_of gains it) (value_of values it.tail) (other it.tail)
-          (other it.head) (low it.tail small.tail)
-          (all_at (λ (c : Constraint). (other c.tail +ℤ (pos times *ℤ gain_of gains c))
-          ≤ℤ other c.head) constraints satisfied place it here)) low;
+          (offered_below times (gain_of gains it) (value_of values it.tail) (other it.tail) (other
+          it.head) (low it.tail small.tail) (all_at (λ (c : Constraint). (other c.tail +ℤ (pos
+          times *ℤ gain_of gains c)) ≤ℤ other c.head) constraints satisfied place it here)) low;
     };
-    high = λ greatest up_to. each (λ register z. z ≤ℤ (greatest +ℤ pos (1 * 2 ^ 80)))
-        (offer_high (value_of values it.tail) (gain_of gains it) greatest
-        (up_to it.tail small.tail) (gain_small gains it small.weight))
-        (λ register within. stays_high _ greatest (up_to register within));
+    high = λ greatest up_to. each (λ register z. z ≤ℤ (greatest +ℤ pos (1 * 2 ^ 80))) (offer_high
+        (value_of values it.tail) (gain_of gains it) greatest (up_to it.tail small.tail) (gain_small
+        gains it small.weight)) (λ register within. stays_high _ greatest (up_to register within));
   }
 
   -- by a tail that isn't above the cap
   pub small_capped : value_of values it.tail ≤ℤ pos (2 ^ 93) → GivesMore gains values it
       → All (IsBelow (2 ^ 94)) values → All (IsBelow (2 ^ 94)) raised_values
-  small_capped capped more smalls place default within =
-      subst (IsBelow (2 ^ 94)) (get_or_default raised_values place (pos 0) default within)
-      (each (λ register z. IsBelow (2 ^ 94) z)
-      (between _ (gain_of gains it) _ capped (smalls it.head (pos 0) small.head)
-      more (gain_small gains it small.weight))
-      (λ register known. smalls register (pos 0) known) place within)
+  small_capped capped more smalls place default within = subst (IsBelow (2 ^ 94)) (get_or_default
+      raised_values place (pos 0) default within) (each (λ register z. IsBelow (2 ^ 94) z)
+      (between _ (gain_of gains it) _ capped (smalls it.head (pos 0) small.head) more (gain_small
+      gains it small.weight)) (λ register known. smalls register (pos 0) known) place within)
     where
       between : (from gain has : ℤ) → from ≤ℤ pos (2 ^ 93) → IsBelow (2 ^ 94) has
           → has <ℤ (from +ℤ gain) → IsBelow (2 ^ 80) gain → IsBelow (2 ^ 94) (from +ℤ gain)

@@ -21,9 +21,8 @@ pub record IsSettling (constraints : List Constraint) (gains : Gains) (sweeps : 
 
 -- before the first sweep
 pub IsSettling-none : (constraints : List Constraint) (gains : Gains) (values : List ℤ)
-    (parents : List ℕ) → AreSmallConstraints (length values) constraints
-    → length parents ≡ length values
-    → ((register : ℕ) → parent_of constraints parents register ≡ None)
+    (parents : List ℕ) → AreSmallConstraints (length values) constraints → length parents
+    ≡ length values → ((register : ℕ) → parent_of constraints parents register ≡ None)
     → IsSettling constraints gains 0 values values parents
 IsSettling-none constraints gains values parents smalls long none = record {
   long = long;
@@ -111,9 +110,8 @@ module _ {constraints : List Constraint} {gains : Gains} {sweep : ℕ} {old new 
       → SatisfiesGains constraints gains 1 (value_of new.values.items)
   satisfied_swept parents long ready none =
       let left = swept.swept sweep parents long ready in
-      SatisfiesGains-swept constraints gains sweep new.values.items left.later
-      (subst (λ o. IsSwept constraints gains sweep o new.values.items left.later) none
-      left.sweeping)
+      SatisfiesGains-swept constraints gains sweep new.values.items left.later (subst
+      (λ o. IsSwept constraints gains sweep o new.values.items left.later) none left.sweeping)
 
   module _ (changed : ℕ) (some : answer ≡ Some changed)
       (long : length old.parents.items ≡ length old.values.items)
@@ -128,9 +126,8 @@ module _ {constraints : List Constraint} {gains : Gains} {sweep : ℕ} {old new 
         parents) (left.kept refl) left.sweeping)
 
     -- where so many of them are above it, the climb stands far up
-    pub far_up : (register : ℕ) → register < length new.values.items
-        → ReachesUp constraints new.parents.items changed register
-        → IsFarUp constraints gains new register
+    pub far_up : (register : ℕ) → register < length new.values.items → ReachesUp
+        constraints new.parents.items changed register → IsFarUp constraints gains new register
     far_up register within reaches = record {
       are_parents = swept_own.are_parents;
       within = within;

@@ -1,20 +1,6 @@
 -- Sweeps: which constraints may give more, by the sweeps in which registers changed last.
-use Rattle.relaxation.proofs.Vocabulary.{◌≡◌, ◌≢◌, ◌<◌, ◌≤◌, ◌+◌, ◌==◌, ◌∙◌, ℕ, suc, zero, ℤ, pos, ◌+ℤ◌, ◌*ℤ◌, ◌≤ℤ◌, ◌<ℤ◌, get_or, cond, List, [], ◌∷◌, length, Option, Some, None, ◌⊎◌, inl, inr, sym, subst, ap, refl, arith, slice_get, cases_eq, eq-eqb, ne_eqb, same_Some, slice_get-get_or, ints, by_lt_z, Constraint, Gains, SatisfiesGains, gain_of, parent_of, Climbs, value_of, offer_of, GivesMore, IsSweeping, IsReady, IsSwept}
+use Rattle.relaxation.proofs.Vocabulary.{◌≡◌, ◌≢◌, ◌<◌, ◌≤◌, ◌+◌, ◌==◌, ◌∙◌, ℕ, suc, zero, ℤ, ◌≤ℤ◌, get_or, cond, List, [], ◌∷◌, length, Option, Some, None, ◌⊎◌, inl, inr, sym, subst, ap, refl, arith, slice_get, cases_eq, eq-eqb, ne_eqb, same_Some, slice_get-get_or, ints, by_lt_z, Constraint, Gains, SatisfiesGains, parent_of, Climbs, value_of, offer_of, GivesMore, IsSweeping, IsReady, IsSwept}
 use Rattle.relaxation.proofs.ParentLemmas.{IsRaise, AreParents-raise, AreParents-none, rises}
-
--- a constraint that gives no more doesn't give more
-not_both : (has offer : ℤ) → offer ≤ℤ has → has <ℤ offer → ⊥
-not_both has offer met more = omega (arith, ints)
-
--- what gives more after a value rose gave more before
-gave_more : (has later from to gain : ℤ) → has ≤ℤ later → later <ℤ (to +ℤ gain) → to ≡ from
-    → has <ℤ (from +ℤ gain)
-gave_more has later from to gain rises more same = omega (arith, ints)
-
--- what is raised to an offer that stays has no more to get
-no_more : (later offer from to gain : ℤ) → later ≡ offer → offer ≡ from +ℤ gain → to ≡ from
-    → later <ℤ (to +ℤ gain) → ⊥
-no_more later offer from to gain here is same more = omega (arith, ints)
 
 module _ {constraints : List Constraint} {gains : Gains} {sweep : ℕ} {Seen : ℕ → Type 0}
     {changed : Option ℕ} {values : List ℤ} {parents : List ℕ}
@@ -40,9 +26,8 @@ module _ {constraints : List Constraint} {gains : Gains} {sweep : ℕ} {Seen : �
     -- the constraint at a place
     is_constraint : (other : ℕ) (it : Constraint) → other ≡ place
         → slice_get constraints other ≡ Some it → constraint ≡ it
-    is_constraint other it same there =
-        same_Some constraint it
-        (sym here ∙ subst (λ p. slice_get constraints p ≡ Some it) same there)
+    is_constraint other it same there = same_Some
+        constraint it (sym here ∙ subst (λ p. slice_get constraints p ≡ Some it) same there)
 
     -- a constraint that gives no more is seen
     pub IsSweeping-left : offer_of gains values constraint ≤ℤ value_of values constraint.head
@@ -55,9 +40,13 @@ module _ {constraints : List Constraint} {gains : Gains} {sweep : ℕ} {Seen : �
       waits = before.waits;
       seen = λ other it later there more. elim (seen other later) [
         | inl was ↦ before.seen other it was there more
-        | inr same ↦ absurd (not_both _ _ met
-            (subst (λ (c : Constraint). GivesMore gains values c)
-            (sym (is_constraint other it same there)) more))
+        | inr same ↦ absurd (omega (
+          arith,
+          ints,
+          met,
+          subst (λ (c : Constraint). GivesMore gains
+              values c) (sym (is_constraint other it same there)) more,
+        ))
       ];
       above = before.above;
     }
@@ -104,7 +93,7 @@ module _ {constraints : List Constraint} {gains : Gains} {sweep : ℕ} {Seen : �
       gave : (it : Constraint) → it.tail ≢ constraint.head → GivesMore gains later it
           → GivesMore gains values it
       gave it other more =
-          gave_more _ _ _ _ _ (rises raise it.head) more (raise.others it.tail other)
+          omega (arith, ints, rises raise it.head, raise.others it.tail other)
 
       -- what gives more has a tail that changed in the sweep before or later
       waits_now : (other : ℕ) (it : Constraint) → slice_get constraints other ≡ Some it
@@ -117,9 +106,8 @@ module _ {constraints : List Constraint} {gains : Gains} {sweep : ℕ} {Seen : �
       ]
 
       -- what is seen and gives more has a tail that changed in this sweep
-      seen_now : (other : ℕ) (it : Constraint) → Later other
-          → slice_get constraints other ≡ Some it
-          → GivesMore gains later it → sweep ≤ last_now it.tail
+      seen_now : (other : ℕ) (it : Constraint) → Later other → slice_get constraints other
+          ≡ Some it → GivesMore gains later it → sweep ≤ last_now it.tail
       seen_now other it is_seen there more = elim (cases_eq it.tail constraint.head) [
         | inl same ↦ omega (arith, same_last it.tail same)
         | inr apart ↦ by_place apart (seen other is_seen)
@@ -140,7 +128,7 @@ module _ {constraints : List Constraint} {gains : Gains} {sweep : ℕ} {Seen : �
                   subst (λ (c : Constraint). GivesMore gains later c) (sym is) gives in
                   let other_tail : constraint.tail ≢ constraint.head =
                   subst (λ (c : Constraint). c.tail ≢ constraint.head) (sym is) far in
-                  no_more _ _ _ _ _ raise.here refl (raise.others constraint.tail other_tail) mine
+                  omega (arith, ints, raise.here, raise.others constraint.tail other_tail, mine)
 
       -- above a register that changed is one that changed a sweep before or later
       above_now : (register : ℕ) → 0 < last_now register
@@ -190,10 +178,9 @@ IsReady-first constraints gains values parents none = record {
 }
 
 -- before the next sweep
-pub IsReady-next : (constraints : List Constraint) (gains : Gains) (sweep register : ℕ)
-    (values : List ℤ) (parents : List ℕ)
-    → IsSwept constraints gains sweep (Some register) values parents
-    → IsReady constraints gains (sweep + 1) values parents
+pub IsReady-next : (constraints : List Constraint) (gains : Gains)
+    (sweep register : ℕ) (values : List ℤ) (parents : List ℕ) → IsSwept constraints gains
+    sweep (Some register) values parents → IsReady constraints gains (sweep + 1) values parents
 IsReady-next constraints gains sweep register values parents swept = record {
   are_parents = swept.are_parents;
   last = swept.last;
@@ -209,18 +196,12 @@ met_all : (constraints : List Constraint) (gains : Gains) (sweep : ℕ) (values 
     (parents : List ℕ) → IsSwept constraints gains sweep None values parents → (place : ℕ)
     (constraint : Constraint) → slice_get constraints place ≡ Some constraint
     → offer_of gains values constraint ≤ℤ value_of values constraint.head
-met_all constraints gains sweep values parents swept place constraint here =
-    by_lt_z (value_of values constraint.head) (offer_of gains values constraint)
-    (λ more. absurd (omega (
+met_all constraints gains sweep values parents swept place constraint here = by_lt_z
+    (value_of values constraint.head) (offer_of gains values constraint) (λ more. absurd (omega (
       arith,
       swept.seen place constraint tt here more,
       swept.changes constraint.tail,
-    )))
-    (λ met. met)
-
--- what is met is satisfied, the gain taken once
-met_once : (from gain to : ℤ) → (from +ℤ gain) ≤ℤ to → (from +ℤ (pos 1 *ℤ gain)) ≤ℤ to
-met_once from gain to met = omega (arith, ints)
+    ))) (λ met. met)
 
 -- so the values satisfy all of them
 pub SatisfiesGains-swept : (constraints : List Constraint) (gains : Gains) (sweep : ℕ)
@@ -228,9 +209,12 @@ pub SatisfiesGains-swept : (constraints : List Constraint) (gains : Gains) (swee
     → SatisfiesGains constraints gains 1 (value_of values)
 SatisfiesGains-swept constraints gains sweep values parents swept place default within =
     let it : Constraint = get_or constraints place default in
-    met_once (value_of values it.tail) (gain_of gains it) (value_of values it.head)
-    (met_all constraints gains sweep values parents swept place it
-    (slice_get-get_or constraints place default within))
+    omega (
+      arith,
+      ints,
+      met_all constraints gains sweep values parents swept place it
+          (slice_get-get_or constraints place default within),
+    )
 
 -- above a register that changed in a sweep are as many parents as there were sweeps
 pub parents_above : (constraints : List Constraint) (gains : Gains) (sweep : ℕ) (Seen : ℕ → Type 0)

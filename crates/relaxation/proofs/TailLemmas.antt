@@ -1,6 +1,7 @@
 -- One constraint more is linked with those before it that have its tail.
-use Rattle.relaxation.proofs.Vocabulary.{◌≡◌, ◌≢◌, ◌<◌, ◌+◌, ◌∙◌, ℕ, List, length, get_or, set, inl, inr, subst, sym, ap, arith, cases_eq, get_or_default, get_or_read, get_or-set_same, get_or-set_other, length-set, Constraint, IsLastBefore, AreByTail}
+use Rattle.relaxation.proofs.Vocabulary.{◌≡◌, ◌≢◌, ◌<◌, ◌+◌, ◌∙◌, ℕ, List, length, get_or, set, inl, inr, subst, sym, ap, arith, cases_eq, get_or_default, get_or_read, length-set, Constraint, IsLastBefore, AreByTail}
 use Rattle.relaxation.proofs.RelaxLemmas.{nowhere}
+use Rattle.relaxation.proofs.SetLemmas.{at_set}
 
 -- the tail of the constraint at a place
 abbrev tail_of : List Constraint → ℕ → Constraint → ℕ
@@ -8,8 +9,7 @@ tail_of constraints place default = (get_or constraints place default).tail
 
 module _ {constraints : List Constraint} {registers end : ℕ} {last before : List ℕ}
     (tails : AreByTail constraints registers end last before)
-    (within : end < length constraints)
-    (known : tail_of constraints end nowhere < registers) where
+    (within : end < length constraints) (known : tail_of constraints end nowhere < registers) where
   -- the constraint
   abbrev it : Constraint
   it = get_or constraints end nowhere
@@ -24,8 +24,7 @@ module _ {constraints : List Constraint} {registers end : ℕ} {last before : Li
   last_here = record {
     within = omega arith;
     here = λ place default next.
-        subst (λ p. tail_of constraints p default ≡ it.tail) (omega (arith, next))
-        (at_end default);
+        subst (λ p. tail_of constraints p default ≡ it.tail) (omega (arith, next)) (at_end default);
     none = λ place default past below. absurd (omega (arith, past, below));
   }
 
@@ -45,32 +44,19 @@ module _ {constraints : List Constraint} {registers end : ℕ} {last before : Li
 
   -- after one more
   pub AreByTail-more : (now : ℕ) → now ≡ get_or last it.tail now
-      → AreByTail constraints registers (end + 1) (set last it.tail (end + 1))
-      (set before end now)
+      → AreByTail constraints registers (end + 1) (set last it.tail (end + 1)) (set before end now)
   AreByTail-more now read = record {
     lasts = length-set last it.tail (end + 1) ∙ tails.lasts;
     befores = length-set before end now ∙ tails.befores;
-    last_is = λ register inside. elim (cases_eq register it.tail) [
-      | inl same ↦ subst (λ r. IsLastBefore constraints (end + 1) r
-          (get_or (set last it.tail (end + 1)) r 0)) (sym same)
-          (subst (IsLastBefore constraints (end + 1) it.tail)
-          (sym (get_or-set_same last it.tail (end + 1) 0 (omega (arith, known, tails.lasts))))
-          last_here)
-      | inr apart ↦ subst (IsLastBefore constraints (end + 1) register)
-          (sym (get_or-set_other last it.tail register (end + 1) 0 apart))
-          (last_there register inside apart)
-    ];
-    before_is = λ place default below. elim (cases_eq place end) [
-      | inl same ↦ subst (λ p. IsLastBefore constraints p (tail_of constraints p default)
-          (get_or (set before end now) p 0)) (sym same)
-          (subst (IsLastBefore constraints end (tail_of constraints end default))
-          (sym (get_or-set_same before end now 0 (omega (arith, within, tails.befores)) ∙ now_is))
-          (subst (λ t. IsLastBefore constraints end t (get_or last it.tail 0))
-          (sym (at_end default)) (tails.last_is it.tail known)))
-      | inr apart ↦ subst (IsLastBefore constraints place (tail_of constraints place default))
-          (sym (get_or-set_other before end place now 0 apart))
-          (tails.before_is place default (omega (arith, below, apart)))
-    ];
+    last_is = at_set (λ register mark. register < registers
+        → IsLastBefore constraints (end + 1) register mark) last it.tail (end + 1) 0
+        (omega (arith, known, tails.lasts)) (λ inside. last_here)
+        (λ register apart inside. last_there register inside apart);
+    before_is = λ place default. at_set (λ place mark. place < end + 1
+        → IsLastBefore constraints place (tail_of constraints place default) mark) before end now 0
+        (omega (arith, within, tails.befores)) (λ below. rw (now_is, at_end default)
+        (tails.last_is it.tail known))
+        (λ other apart below. tails.before_is other default (omega (arith, below, apart))) place;
   }
     where
       -- what the code reads

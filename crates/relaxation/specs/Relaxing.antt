@@ -20,16 +20,17 @@ pub record HasRoom (constraints : List Constraint) (relaxation : Relaxation) : T
   pub entries : HasEntries constraints relaxation
   pub small : All (IsBelow (2 ^ 94)) relaxation.values.items
 
--- the values have risen, with room still
+-- the values have risen further from where they began, with room still
 pub record HasRisen (constraints : List Constraint) (gains : Gains) (old new : Relaxation) : Type 0
   where
     pub room : HasRoom constraints new
-    pub raised : AreRaised constraints gains old.values.items new.values.items
+    pub registers : length new.values.items ≡ length old.values.items
+    pub raised : (begun : List ℤ) → AreRaised constraints gains begun old.values.items
+        → AreRaised constraints gains begun new.values.items
 
 -- what the constraint gives its head
 abbrev pub offer_of : Gains → List ℤ → Constraint → ℤ
-offer_of gains values constraint =
-    value_of values constraint.tail +ℤ gain_of gains constraint
+offer_of gains values constraint = value_of values constraint.tail +ℤ gain_of gains constraint
 
 -- that is more than the head has
 abbrev pub GivesMore : Gains → List ℤ → Constraint → Type 0
@@ -38,8 +39,7 @@ GivesMore gains values constraint =
 
 -- a constraint that gives no more changes nothing
 pub record IsLeft (gains : Gains) (constraint : Constraint) (old new : Relaxation) : Type 0 where
-  pub met : offer_of gains old.values.items constraint
-      ≤ℤ value_of old.values.items constraint.head
+  pub met : offer_of gains old.values.items constraint ≤ℤ value_of old.values.items constraint.head
   pub values : new.values.items ≡ old.values.items
   pub parents : new.parents.items ≡ old.parents.items
 
@@ -55,9 +55,8 @@ pub record IsRaised (gains : Gains) (place : ℕ) (constraint : Constraint) (old
 -- the constraint at the place is looked at, and this register changed, if any did
 abbrev pub IsRelaxed : List Constraint → Gains → (place : ℕ) → (old : Relaxation)
     → (changed : Option ℕ) → (new : Relaxation) → Type 0
-IsRelaxed constraints gains place old changed new =
-    IfSome (slice_get constraints place) (λ constraint. MatchOption changed
-    (IsLeft gains constraint old new)
+IsRelaxed constraints gains place old changed new = IfSome (slice_get constraints place)
+    (λ constraint. MatchOption changed (IsLeft gains constraint old new)
     (λ register. IsRaised gains place constraint old register new))
 
 -- the parents are those of the gains, and so many of them lead up to the register

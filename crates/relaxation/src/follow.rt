@@ -2,6 +2,7 @@ ghost use Rattle.std.specs.Prelude.{◌≡◌, ◌<◌, IfSome, length};
 ghost use Rattle.relaxation.specs.Relaxing.{HasEntries, HasRisen, HasRoom};
 
 use crate::gains::Gains;
+use crate::policy::STANDS;
 use crate::relaxation::Relaxation;
 use crate::turns::Turns;
 use cts_model::Constraint;
@@ -47,36 +48,18 @@ impl Relaxation {
         ensures registers { length self.new.values.items ≡ length self.old.values.items }
         ensures marks { length marks.new ≡ length marks.old }
     {
-        self.value_by_parents(constraints, gains, marks, turns);
-        self.take_turns(constraints, gains, turns);
-    }
-
-    // Gives each register a value by its parents.
-    fn value_by_parents(
-        &mut self,
-        constraints: &[Constraint],
-        gains: Gains,
-        marks: &mut [u32],
-        turns: &mut Turns,
-    )
-        requires room { HasRoom constraints.now self.old }
-        requires marks { length marks.old ≡ length self.old.values.items }
-        ensures room { HasRoom constraints.now self.new }
-        ensures registers { length self.new.values.items ≡ length self.old.values.items }
-        ensures marks { length marks.new ≡ length marks.old }
-    {
         if turns.do_all_wait() {
-            self.evaluate(constraints, gains, marks, turns.lowest())
-        } else {
-            self.follow_parents(constraints, gains, marks, turns)
+            self.lower(constraints, marks, turns.lowest());
         }
+        self.follow_parents(constraints, gains, marks, turns);
+        self.take_turns(constraints, gains, turns);
     }
 
     // Raises each register by its parent, after the registers above it up the parents, so a long
     // way of parents is gone in whatever order they stand. Each entry of the links becomes, for a
     // register that was passed on a way up, 1 more than the register passed before it, or than
     // itself where the way begins; else 0. A register that is raised waits. It passes each register
-    // once.
+    // once, but for those that stand.
     fn follow_parents(
         &mut self,
         constraints: &[Constraint],
@@ -89,7 +72,7 @@ impl Relaxation {
         ensures risen { HasRisen constraints.now gains self.old self.new }
         ensures links { length links.new ≡ length links.old }
     {
-        links.fill(0);
+        forget_marks(links);
         for register in 0..self.parents.len() {
             if let Some(top) = self.top_above(constraints, links, register as u32) {
                 self.raise_down(constraints, gains, links, top, turns);
@@ -141,7 +124,7 @@ impl Relaxation {
         let mut register = top;
         for _step in 0..self.parents.len() {
             let place = self.parents[register as usize] as usize;
-            self.relax_in_turn(constraints, gains, place, turns);
+            self.offer(constraints, gains, place, turns);
             let below = links[register as usize].wrapping_sub(1);
             if below == register || below as usize >= links.len() {
                 return;
@@ -172,7 +155,7 @@ impl Relaxation {
     {
         turns.clear();
         for place in 0..constraints.len() {
-            self.relax_in_turn(constraints, gains, place, turns);
+            self.offer(constraints, gains, place, turns);
         }
     }
 
@@ -191,35 +174,23 @@ impl Relaxation {
     }
 
     // Relaxes each constraint that leads from a register.
-    fn hand_on(
-        &mut self,
-        constraints: &[Constraint],
-        gains: Gains,
-        register: usize,
-        turns: &mut Turns,
-    )
+    fn hand_on(&mut self, constraints: &[Constraint], gains: Gains, from: usize, turns: &mut Turns)
         requires { HasRoom constraints.now self.old }
         ensures { HasRisen constraints.now gains self.old self.new }
     {
-        let mut next = turns.last_from(register);
+        let mut next = turns.last_from(from);
         for _step in 0..constraints.len() {
             let Some(place) = next else {
                 return;
             };
-            self.relax_in_turn(constraints, gains, place, turns);
+            self.offer(constraints, gains, place, turns);
             next = turns.before(place);
         }
     }
 
     // Raises the head of the constraint at a place, if there is one that gives it more. The head
     // waits then. A tail above the cap hands nothing on.
-    fn relax_in_turn(
-        &mut self,
-        constraints: &[Constraint],
-        gains: Gains,
-        place: usize,
-        turns: &mut Turns,
-    )
+    fn offer(&mut self, constraints: &[Constraint], gains: Gains, place: usize, turns: &mut Turns)
         requires { HasRoom constraints.now self.old }
         ensures { HasRisen constraints.now gains self.old self.new }
     {
@@ -228,6 +199,17 @@ impl Relaxation {
         }
         if let Some(head) = self.relax(constraints, place, gains) {
             turns.let_wait(head);
+        }
+    }
+}
+
+// Forgets all marks but those of registers whose values stand.
+fn forget_marks(marks: &mut [u32])
+    ensures { length marks.new ≡ length marks.old }
+{
+    for mark in marks.iter_mut() {
+        if *mark != STANDS {
+            *mark = 0;
         }
     }
 }

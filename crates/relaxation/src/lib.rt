@@ -6,7 +6,6 @@ mod follow;
 mod gains;
 mod policy;
 mod relaxation;
-mod satisfy;
 mod strong;
 mod tails;
 mod turns;

@@ -7,12 +7,12 @@ ghost use Rattle.relaxation.specs.Parents.{HaveOwnHeads};
 ghost use Rattle.relaxation.specs.Relaxing.{HasEntries, HasRoom};
 
 use crate::gains::Gains;
-use crate::relaxation::Relaxation;
+use crate::relaxation::{Relaxation, cut};
 use crate::turns::Turns;
 use cts_model::Constraint;
 
 /// The mark of a register whose value stands.
-const STANDS: u32 = u32::MAX;
+pub(crate) const STANDS: u32 = u32::MAX;
 
 /// Less than any constraint gains.
 const NO_GAIN: i128 = -(1 << 80);
@@ -57,28 +57,19 @@ impl Relaxation {
         None
     }
 
-    /// Gives each register the value that the parents above it give it from the next register whose
-    /// value stands: one that is marked or has no parent. None is below the lowest.
-    pub(crate) fn evaluate(
-        &mut self,
-        constraints: &[Constraint],
-        gains: Gains,
-        marks: &mut [u32],
-        lowest: i128,
-    )
+    /// Lowers each register that has a parent, but for those that are marked as standing, so that it
+    /// rises again by its parent. Values are cut in size.
+    pub(crate) fn lower(&mut self, constraints: &[Constraint], marks: &[u32], lowest: i128)
         requires entries { HasEntries constraints.now self.old }
-        requires marks { length marks.old ≡ length self.old.parents.items }
+        requires marks { length marks.now ≡ length self.old.values.items }
         ensures room { HasRoom constraints.now self.new }
         ensures registers { length self.new.values.items ≡ length self.old.values.items }
-        ensures marks { length marks.new ≡ length marks.old }
     {
-        for register in 0..self.parents.len() {
-            let from = register as u32;
-            let (top, gain) = self.standing_above(constraints, gains, marks, from);
-            self.hang(constraints, gains, marks, from, top, gain);
+        for register in 0..self.values.len() {
+            let place = self.parents[register] as usize;
+            let falls = place < constraints.len() && marks[register] != STANDS;
+            self.values[register] = cut(if falls { lowest } else { self.values[register] });
         }
-        self.raise_to(lowest);
-        self.rescale(gains, gains);
     }
 
     /// Whether each parent leads to the register that it is a parent of.
@@ -94,18 +85,12 @@ impl Relaxation {
     }
 
     // Makes each linked constraint that leads from a register its head's parent if it gains more.
-    fn prefer_from(
-        &mut self,
-        constraints: &[Constraint],
-        gains: Gains,
-        register: usize,
-        turns: &Turns,
-    )
+    fn prefer_from(&mut self, constraints: &[Constraint], gains: Gains, from: usize, turns: &Turns)
         requires entries { HasEntries constraints.now self.old }
         ensures values { length self.new.values.items ≡ length self.old.values.items }
         ensures parents { length self.new.parents.items ≡ length self.old.parents.items }
     {
-        let mut next = turns.last_from(register);
+        let mut next = turns.last_from(from);
         for _step in 0..constraints.len() {
             let Some(place) = next else {
                 return;
@@ -176,78 +161,5 @@ impl Relaxation {
             }
         }
         gain
-    }
-
-    // The next register up the parents whose value stands, and what the constraints up to it gain.
-    fn standing_above(
-        &self,
-        constraints: &[Constraint],
-        gains: Gains,
-        marks: &[u32],
-        from: u32,
-    ) -> (u32, i128)
-        requires entries { HasEntries constraints.now self.now }
-        requires marks { length marks.now ≡ length self.now.parents.items }
-        requires from { from < length self.now.parents.items }
-        ensures { result.0 < length self.now.parents.items }
-    {
-        let mut gain = 0i128;
-        let mut register = from;
-        for _step in 0..self.parents.len() {
-            if marks[register as usize] == STANDS {
-                return (register, gain);
-            }
-            let Some(parent) = self.parent(constraints, register) else {
-                return (register, gain);
-            };
-            gain = gain.wrapping_add(gains.gain(parent));
-            register = parent.tail;
-        }
-        (register, gain)
-    }
-
-    // Raises each value that is below the lowest to that.
-    fn raise_to(&mut self, lowest: i128)
-        ensures values { length self.new.values.items ≡ length self.old.values.items }
-        ensures parents { self.new.parents.items ≡ self.old.parents.items }
-    {
-        for register in 0..self.values.len() {
-            self.values[register] = self.values[register].max(lowest);
-        }
-    }
-
-    // Gives the registers from one up to another their values, which stand then. The upper one
-    // keeps its own; the constraints between the two gain so much.
-    fn hang(
-        &mut self,
-        constraints: &[Constraint],
-        gains: Gains,
-        marks: &mut [u32],
-        from: u32,
-        top: u32,
-        gain: i128,
-    )
-        requires entries { HasEntries constraints.now self.old }
-        requires marks { length marks.old ≡ length self.old.parents.items }
-        requires from { from < length self.old.parents.items }
-        requires top { top < length self.old.parents.items }
-        ensures values { length self.new.values.items ≡ length self.old.values.items }
-        ensures parents { self.new.parents.items ≡ self.old.parents.items }
-        ensures marks { length marks.new ≡ length marks.old }
-    {
-        let mut value = self.values[top as usize].wrapping_add(gain);
-        let mut register = from;
-        for _step in 0..self.parents.len() {
-            marks[register as usize] = STANDS;
-            if register == top {
-                return;
-            }
-            self.values[register as usize] = value;
-            let Some(parent) = self.parent(constraints, register) else {
-                return;
-            };
-            value = value.wrapping_sub(gains.gain(parent));
-            register = parent.tail;
-        }
     }
 }

@@ -2,6 +2,7 @@ ghost use Rattle.std.specs.Prelude.{◌≡◌, ◌<◌, ◌≤◌, ◌^◌, ℕ,
 ghost use Rattle.cts_model.specs.declared.constraint.Constraint.{Constraint};
 ghost use Rattle.cts_model.specs.placement.Points.{IsBelow};
 ghost use Rattle.cts_model.specs.timing.Constraints.{AreSmallConstraints};
+ghost use Rattle.relaxation.specs.Places.{place_at};
 
 use crate::gains::Gains;
 use cts_base::NoMemory;
@@ -115,6 +116,25 @@ impl Relaxation {
         None
     }
 
+    /// Sweeps over constraints that some values satisfy, forwards and backwards by turns, until a
+    /// sweep changes nothing. It needs no parents, makes at most a sweep for each register, and
+    /// takes no memory.
+    pub fn satisfy(&mut self, constraints: &[Constraint], gains: Gains)
+        requires constraints { AreSmallConstraints (length self.old.values.items)
+            constraints.now }
+        requires small { All (IsBelow (2 ^ 94)) self.old.values.items }
+        requires admitted { AdmitsGains constraints.now gains }
+        ensures satisfied { SatisfiesGains constraints.now gains 1
+            (value_of self.new.values.items) }
+        ensures raised { AreRaised constraints.now gains self.old.values.items
+            self.new.values.items }
+    {
+        let mut before = 0;
+        while self.sweep(constraints, gains, before).is_some() {
+            before += 1;
+        }
+    }
+
     /// The parent of a register, if it has one.
     pub(crate) fn parent<'a>(
         &self,
@@ -156,38 +176,10 @@ impl Relaxation {
         requires small { All (IsBelow (2 ^ 114)) self.old.values.items }
         ensures { IsSweep constraints.now gains self.old result self.new }
     {
-        if before % 2 == 0 {
-            self.sweep_forwards(constraints, gains)
-        } else {
-            self.sweep_backwards(constraints, gains)
-        }
-    }
-
-    // From the first constraint to the last.
-    fn sweep_forwards(&mut self, constraints: &[Constraint], gains: Gains) -> Option<u32>
-        requires constraints { AreSmallConstraints (length self.old.values.items)
-            constraints.now }
-        requires small { All (IsBelow (2 ^ 114)) self.old.values.items }
-        ensures { IsSweep constraints.now gains self.old result self.new }
-    {
+        let forwards = before % 2 == 0;
         let mut changed = None;
-        for place in 0..constraints.len() {
-            changed = self.relax(constraints, place, gains).or(changed);
-        }
-        changed
-    }
-
-    // From the last constraint to the first.
-    fn sweep_backwards(&mut self, constraints: &[Constraint], gains: Gains) -> Option<u32>
-        requires constraints { AreSmallConstraints (length self.old.values.items)
-            constraints.now }
-        requires small { All (IsBelow (2 ^ 114)) self.old.values.items }
-        ensures { IsSweep constraints.now gains self.old result self.new }
-    {
-        let mut changed = None;
-        let mut place = constraints.len();
-        while place > 0 {
-            place -= 1;
+        for turn in 0..constraints.len() {
+            let place = place_at(turn, constraints.len(), forwards);
             changed = self.relax(constraints, place, gains).or(changed);
         }
         changed
@@ -229,6 +221,15 @@ impl Relaxation {
     }
 }
 
+// The place that a sweep comes to after so many others.
+fn place_at(turn: usize, places: usize, forwards: bool) -> usize
+    requires { turn < places }
+    ensures place { result ≡ place_at turn places forwards }
+    ensures within { result < places }
+{
+    if forwards { turn } else { places - 1 - turn }
+}
+
 // A value at another scale, rounded and cut to a size below 2^88.
 fn rescaled(value: i128, last: Gains, next: Gains) -> i128
     ensures { IsBelow (2 ^ 88) result }
@@ -240,8 +241,8 @@ fn rescaled(value: i128, last: Gains, next: Gains) -> i128
     cut(kept * next.scale / last.scale)
 }
 
-// The nearest value whose size is below 2^88.
-fn cut(value: i128) -> i128
+/// The nearest value whose size is below 2^88.
+pub(crate) fn cut(value: i128) -> i128
     ensures { IsBelow (2 ^ 88) result }
 {
     value.clamp(-LIMIT, LIMIT)

@@ -44,21 +44,19 @@ impl Strong {
     }
 }
 
-/// The most that a constraint gains, by a look at some.
+/// The most that a constraint gains, by a look at some, or 0 where none gains that much.
 pub(crate) fn greatest_gain(constraints: &[Constraint], gains: Gains) -> i128 {
-    let mut setup = 0i128;
-    let mut hold = 0i128;
+    let mut greatest = 0i128;
     for turn in 0..constraints.len() / EACH {
-        let Some(constraint) = constraints.get(turn.wrapping_mul(EACH)) else {
-            break;
-        };
-        if constraint.setup {
-            setup = setup.max(constraint.weight);
-        } else {
-            hold = hold.max(constraint.weight);
+        if let Some(constraint) = constraints.get(turn.wrapping_mul(EACH)) {
+            let asked = gains.scale.wrapping_mul(constraint.weight);
+            let due = if constraint.setup {
+                gains.setup
+            } else {
+                gains.hold
+            };
+            greatest = greatest.max(asked.wrapping_sub(due));
         }
     }
-    let setup = gains.scale.wrapping_mul(setup).wrapping_sub(gains.setup);
-    let hold = gains.scale.wrapping_mul(hold).wrapping_sub(gains.hold);
-    setup.max(hold)
+    greatest
 }

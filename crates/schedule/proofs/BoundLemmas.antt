@@ -79,9 +79,8 @@ module _ (constraints : List Constraint) (gains : Gains) (most : ℕ) (at : List
 
   -- a level is the arrival that is shifted
   level_is : (register : ℕ) → register < length at → pos (level register) ≡ shifted register
-  level_is register within = size_same (shifted register)
-      (size_above (arrival register) (lift arrival (length at))
-      (within_lift arrival (length at) register within))
+  level_is register within = size_same (shifted register) (size_above (arrival register)
+      (lift arrival (length at)) (within_lift arrival (length at) register within))
 
   -- they satisfy the constraints still
   low_satisfied : SatisfiesGains constraints gains 1 low_arrival
@@ -91,14 +90,11 @@ module _ (constraints : List Constraint) (gains : Gains) (most : ℕ) (at : List
       let gain : ℤ = gain_of gains it in
       let met = gain_from (arrival it.tail) (arrival it.head) gain
       (pos (lift arrival (length at))) (satisfied place default within) in
-      let on_levels : (pos (level it.tail) +ℤ gain) ≤ℤ pos (level it.head) =
-      subst (λ z. (z +ℤ gain) ≤ℤ pos (level it.head))
-      (sym (level_is it.tail is_small.tail))
-      (subst (λ z. (shifted it.tail +ℤ gain) ≤ℤ z)
-      (sym (level_is it.head is_small.head)) met) in
-      gain_once (low_arrival it.tail) (low_arrival it.head) gain
-      (lowered_keeps level most (length at) it.tail it.head gain
-      is_small.tail (low place default within) on_levels)
+      let on_levels : (pos (level it.tail) +ℤ gain) ≤ℤ pos (level it.head)
+      = subst (λ z. (z +ℤ gain) ≤ℤ pos (level it.head)) (sym (level_is it.tail is_small.tail))
+      (subst (λ z. (shifted it.tail +ℤ gain) ≤ℤ z) (sym (level_is it.head is_small.head)) met) in
+      gain_once (low_arrival it.tail) (low_arrival it.head) gain (lowered_keeps level
+      most (length at) it.tail it.head gain is_small.tail (low place default within) on_levels)
 
   -- they are from 0 on
   low_from_zero : AreFromZero (length at) low_arrival
@@ -112,9 +108,8 @@ module _ (constraints : List Constraint) (gains : Gains) (most : ℕ) (at : List
       let bound : lowered level most (suc (length at - 1)) (level register)
       ≤ (length at - 1) * most =
       lowered_low level most (length at - 1) register (omega arith) in
-      as_numbers _ _
-      (subst (λ n. lowered level most n (level register)
-      ≤ (length at - 1) * most) others bound)
+      as_numbers
+      _ _ (subst (λ n. lowered level most n (level register) ≤ (length at - 1) * most) others bound)
     where
       as_numbers : (a b : ℕ) → a ≤ b → pos a ≤ℤ pos b
       as_numbers a b below = omega (arith, ints)
@@ -122,17 +117,15 @@ module _ (constraints : List Constraint) (gains : Gains) (most : ℕ) (at : List
   -- so those that are the least are low
   pub least_low : AreLeastBy constraints gains at → (register : ℕ) → register < length at
       → arrival_of at register ≤ℤ pos ((length at - 1) * most)
-  least_low least register within = no_later (arrival_of at register) (low_arrival register)
-      (pos ((length at - 1) * most))
-      (least 1 low_arrival (omega arith) low_from_zero low_satisfied register within)
-      (low_bound register within)
+  least_low least register within = no_later (arrival_of at register)
+      (low_arrival register) (pos ((length at - 1) * most)) (least 1 low_arrival
+      (omega arith) low_from_zero low_satisfied register within) (low_bound register within)
 
 -- where no weight is above this one, no gain at a period is above the scale times it
 gains_within : (constraints : List Constraint) (period : Fraction) (gains : Gains) (weight : ℕ)
-    → AreGainsOf period gains → IsSmallPeriod period
-    → All (λ (constraint : Constraint). constraint.weight ≤ℤ pos weight) constraints
-    → All (λ (constraint : Constraint). gain_of gains constraint
-    ≤ℤ pos (nat_abs period.den * weight)) constraints
+    → AreGainsOf period gains → IsSmallPeriod period → All (λ (constraint : Constraint).
+    constraint.weight ≤ℤ pos weight) constraints → All (λ (constraint : Constraint).
+    gain_of gains constraint ≤ℤ pos (nat_abs period.den * weight)) constraints
 gains_within constraints period gains weight are range low place default within =
     let it : Constraint = get_or constraints place default in
     let scale = size_same period.den (omega (arith, ints, period.lowest.some_den)) in
@@ -140,8 +133,7 @@ gains_within constraints period gains weight are range low place default within 
     subst (λ z. (z *ℤ it.weight) ≤ℤ pos (nat_abs period.den * weight)) scale
     (scaled_most (nat_abs period.den) weight it.weight (low place default within)) in
     rw (are.scale_is, are.setup_is, are.hold_is)
-    (gain_most (period.den *ℤ it.weight) (cond it.setup period.num (pos 0)) _ most
-    (at it.setup))
+    (gain_most (period.den *ℤ it.weight) (cond it.setup period.num (pos 0)) _ most (at it.setup))
   where
     at : (setup : Bool) → pos 0 ≤ℤ cond setup period.num (pos 0)
     at true = range.from_zero
@@ -164,9 +156,8 @@ below_limit limit a n from high few =
 
 -- arrivals from 0 on that are within the weights of small constraints are small
 pub small_within : (constraints : List Constraint) (period : Fraction) (at : List ℤ) (limit : ℕ)
-    → 4096 * (4097 * 100000000000) < limit
-    → AreSmallConstraints (length at) constraints → IsSmallPeriod period
-    → AreFromZero (length at) (arrival_of at)
+    → 4096 * (4097 * 100000000000) < limit → AreSmallConstraints (length at) constraints
+    → IsSmallPeriod period → AreFromZero (length at) (arrival_of at)
     → AreWithinWeights constraints (nat_abs period.den) at → All (IsBelow limit) at
 small_within constraints period at limit enough small range from_zero bound place default within =
     subst (IsBelow limit) (get_or_default at place (pos 0) default within)
@@ -187,26 +178,22 @@ small_within constraints period at limit enough small range from_zero bound plac
     -- how large the bound is
     size : (length at - 1) * (nat_abs period.den * 100000000000) ≤ 4096 * (4097 * 100000000000)
     size = mul-le (length at - 1) (nat_abs period.den * 100000000000) 4096 (4097 * 100000000000)
-        (omega (arith, small.not_many))
-        (mul-le (nat_abs period.den) 100000000000 4097 100000000000
-        (scale_low period.den range.low period.lowest.some_den) (omega arith))
+        (omega (arith, small.not_many)) (mul-le (nat_abs period.den) 100000000000
+        4097 100000000000 (scale_low period.den range.low period.lowest.some_den) (omega arith))
 
 -- arrivals that are rising are small, as gains are
-pub small_rising : (constraints : List Constraint) (gains : Gains) (at : List ℤ)
-    → CanSchedule constraints gains (length at) → IsRising constraints gains at
-    → All (IsBelow (2 ^ 93)) at
+pub small_rising : (constraints : List Constraint) (gains : Gains) (at : List ℤ) → CanSchedule
+    constraints gains (length at) → IsRising constraints gains at → All (IsBelow (2 ^ 93)) at
 small_rising constraints gains at can rising place default within =
-    subst (IsBelow (2 ^ 93)) (get_or_default at place (pos 0) default within)
-    (below_limit (2 ^ 93) (arrival_of at place) _ (rising.from_zero place within)
-    (least_low constraints gains (2 ^ 80) at can.admitted.0 can.small low can.admitted.1
-    rising.least place within) (omega (arith, size)))
+    subst (IsBelow (2 ^ 93)) (get_or_default at place (pos 0) default within) (below_limit (2 ^ 93)
+    (arrival_of at place) _ (rising.from_zero place within) (least_low constraints gains (2 ^ 80)
+    at can.admitted.0 can.small low can.admitted.1 rising.least place within) (omega (arith, size)))
   where
     -- no gain is above 2^80
     low : All (λ (constraint : Constraint). gain_of gains constraint ≤ℤ pos (2 ^ 80)) constraints
-    low constraint_place nothing inside =
-        under (gain_of gains (get_or constraints constraint_place nothing)) (gain_small gains
-        (get_or constraints constraint_place nothing)
-        (can.small.each constraint_place nothing inside).weight)
+    low constraint_place nothing inside = under (gain_of
+        gains (get_or constraints constraint_place nothing)) (gain_small gains (get_or constraints
+        constraint_place nothing) (can.small.each constraint_place nothing inside).weight)
       where
         under : (gain : ℤ) → IsBelow (2 ^ 80) gain → gain ≤ℤ pos (2 ^ 80)
         under gain it = omega (arith, ints, it.below)

@@ -15,10 +15,9 @@ pub record IsTaking (constraints : List Constraint) (period : Fraction) (at : Li
     (taken : ℕ) (reach : Reach) : Type 0 where
   pub reaching : IsReaching constraints period at (length at) reach
   pub within : taken ≤ length reach.queue.items
-  pub handed : (turn place : ℕ) (default : Constraint) → turn < taken
-      → place < length constraints
-      → (get_or constraints place default).tail ≡ get_or reach.queue.items turn 0
-      → IsHandedBy constraints period at reach place
+  pub handed : (turn place : ℕ) (default : Constraint)
+      → turn < taken → place < length constraints → (get_or constraints place default).tail
+      ≡ get_or reach.queue.items turn 0 → IsHandedBy constraints period at reach place
 
 -- nothing changed
 IsReachKept-same : (reach : Reach) → IsReachKept reach reach
@@ -45,9 +44,8 @@ above_zero (pos (suc n)) from late = omega (arith, ints)
 above_zero (negsuc n) from late = absurd (omega (arith, ints))
 
 module _ {constraints : List Constraint} {period : Fraction} {at : List ℤ} {old : Reach}
-    (given : IsGiven constraints period at)
-    (reaching : IsReaching constraints period at (length at) old) (place : ℕ)
-    (within : place < length constraints) where
+    (given : IsGiven constraints period at) (reaching : IsReaching
+    constraints period at (length at) old) (place : ℕ) (within : place < length constraints) where
   -- the constraint
   abbrev it : Constraint
   it = get_or constraints place nowhere
@@ -77,21 +75,21 @@ module _ {constraints : List Constraint} {period : Fraction} {at : List ℤ} {ol
         → IsGrown constraints period at place old new
     IsGrown-offered {new} added = record {
       keeps = IsReachKept-added reaching added head first;
-      reaching = IsReaching-added reaching added head first led tail
-          (omega (arith, depth_is, reaching.low it.tail)) (length at) head (omega arith)
-          (λ other early. inl early);
+      reaching = IsReaching-added reaching added head first led tail (omega (
+        arith,
+        depth_is,
+        reaching.low it.tail,
+      )) (length at) head (omega arith) (λ other early. inl early);
       handed = λ default is.
-          subst (λ (c : Constraint). IsReached new c.head)
-          (get_or_default constraints place nowhere default within)
-          (flag_here reaching added head first);
+          subst (λ (c : Constraint). IsReached new c.head) (get_or_default
+          constraints place nowhere default within) (flag_here reaching added head first);
     }
 
 module _ {constraints : List Constraint} {period : Fraction} {at : List ℤ}
     {register mark : ℕ} {old : Reach} where
   -- at first all constraints are left
-  pub IsHanding-none : IsReaching constraints period at (length at) old
-      → IsLastBefore constraints (length constraints) register mark
-      → IsHanding constraints period at register mark old old
+  pub IsHanding-none : IsReaching constraints period at (length at) old → IsLastBefore constraints
+      (length constraints) register mark → IsHanding constraints period at register mark old old
   IsHanding-none reaching last = record {
     handed = record {
       keeps = IsReachKept-same old;
@@ -147,11 +145,9 @@ module _ {constraints : List Constraint} {period : Fraction} {at : List ℤ}
 module _ {constraints : List Constraint} {period : Fraction} {at : List ℤ} {taken : ℕ}
     {now : Reach} where
   -- the next register of the queue is taken
-  pub IsTaking-more : {new : Reach} → IsTaking constraints period at taken now
-      → taken < length now.queue.items → (register : ℕ)
-      → register ≡ get_or now.queue.items taken register
-      → IsHanded constraints period at register 0 now new
-      → IsTaking constraints period at (taken + 1) new
+  pub IsTaking-more : {new : Reach} → IsTaking constraints period at taken now → taken < length
+      now.queue.items → (register : ℕ) → register ≡ get_or now.queue.items taken register → IsHanded
+      constraints period at register 0 now new → IsTaking constraints period at (taken + 1) new
   IsTaking-more {new} taking below register read more = record {
     reaching = more.reaching;
     within = omega (arith, below, more.keeps.longer);
@@ -159,14 +155,12 @@ module _ {constraints : List Constraint} {period : Fraction} {at : List ℤ} {ta
   }
     where
       -- what is handed on by those that are taken
-      handed : (turn place : ℕ) (default : Constraint) → turn < taken + 1
-          → place < length constraints
-          → (get_or constraints place default).tail ≡ get_or new.queue.items turn 0
-          → IsHandedBy constraints period at new place
+      handed : (turn place : ℕ) (default : Constraint)
+          → turn < taken + 1 → place < length constraints → (get_or constraints place default).tail
+          ≡ get_or new.queue.items turn 0 → IsHandedBy constraints period at new place
       handed turn place default early within is = elim (cases_eq turn taken) [
-        | inl same ↦ more.handed place default (omega arith) within
-            (is ∙ (ap (λ t. get_or new.queue.items t 0) same
-            ∙ (more.keeps.same taken below
+        | inl same ↦ more.handed place default (omega arith)
+            within (is ∙ (ap (λ t. get_or new.queue.items t 0) same ∙ (more.keeps.same taken below
             ∙ sym (get_or_read now.queue.items taken register below read 0))))
         | inr apart ↦
             let before : turn < taken = omega (arith, early, apart) in

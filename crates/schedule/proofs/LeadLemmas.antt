@@ -12,9 +12,8 @@ lowered_from_zero false (pos (suc n)) from zero_set = omega (arith, ints)
 lowered_from_zero false (negsuc n) from zero_set = absurd (omega (arith, ints))
 
 -- what is met and isn't tight is met by 1 more
-room_left : (from to asked due gap : ℤ) → gap ≡ (to +ℤ due) -ℤ (from +ℤ asked)
-    → (from +ℤ asked) ≤ℤ (to +ℤ due) → (to -ℤ from ≡ asked -ℤ due → ⊥)
-    → (from +ℤ asked) ≤ℤ ((to -ℤ pos 1) +ℤ due)
+room_left : (from to asked due gap : ℤ) → gap ≡ (to +ℤ due) -ℤ (from +ℤ asked) → (from +ℤ asked)
+    ≤ℤ (to +ℤ due) → (to -ℤ from ≡ asked -ℤ due → ⊥) → (from +ℤ asked) ≤ℤ ((to -ℤ pos 1) +ℤ due)
 room_left from to asked due (pos zero) gap_is met loose = absurd (loose (omega (arith, ints)))
 room_left from to asked due (pos (suc n)) gap_is met loose = omega (arith, ints)
 room_left from to asked due (negsuc n) gap_is met loose = absurd (omega (arith, ints))
@@ -64,16 +63,14 @@ module _ {constraints : List Constraint} {period : Fraction} {at : List ℤ} {re
       let it : Constraint = get_or constraints place default in
       lowered_met (flag it.tail) (flag it.head) (arrival_of at it.tail) (arrival_of at it.head)
       (pos (nat_abs period.den) *ℤ it.weight) (period.num *ℤ pos (count_of it))
-      (least.satisfies place default within)
-      (λ reached tight. whole.handed place default within reached default
-      (subst (λ z. arrival_of at it.head -ℤ arrival_of at it.tail
+      (least.satisfies place default within) (λ reached tight. whole.handed place
+      default within reached default (subst (λ z. arrival_of at it.head -ℤ arrival_of at it.tail
       ≡ (z *ℤ it.weight) -ℤ (period.num *ℤ pos (count_of it))) den_is tight))
 
   -- at the same scale, taken once
   all_met_once : Satisfies constraints (nat_abs period.den * 1) (period.num *ℤ pos 1) lowered
-  all_met_once =
-      subst (λ n. Satisfies constraints n (period.num *ℤ pos 1) lowered) (omega arith)
-      (subst (λ (z : ℤ). Satisfies constraints (nat_abs period.den) z lowered)
+  all_met_once = subst (λ n. Satisfies constraints n (period.num *ℤ pos 1) lowered)
+      (omega arith) (subst (λ (z : ℤ). Satisfies constraints (nat_abs period.den) z lowered)
       (once_is period.num) all_met)
 
   -- so each is reached

@@ -33,19 +33,16 @@ module _ (level : ℕ → ℕ) (width : ℕ) where
   is_covered zero register other within from to = absurd (omega arith)
   is_covered (suc registers) register other within from to = elim (cases_eq register registers) [
     | inl same ↦
-        let first : level registers ≤ other =
-        subst (λ r. level r ≤ other) same from in
-        let last : other < level registers + width =
-        subst (λ r. other < level r + width) same to in
+        let first : level registers ≤ other = subst (λ r. level r ≤ other) same from in
+        let last : other < level registers + width = subst (λ r. other < level r + width) same to in
         omega arith
     | inr apart ↦
         let before = is_covered registers register other (omega arith) from to in omega arith
   ]
 
   -- what is above stays above, and comes no further away
-  lowered_above : (registers low high : ℕ) → low ≤ high
-      → (lowered registers low ≤ lowered registers high)
-      × (lowered registers high ≤ lowered registers low + (high - low))
+  lowered_above : (registers low high : ℕ) → low ≤ high → (lowered registers low
+      ≤ lowered registers high) × (lowered registers high ≤ lowered registers low + (high - low))
   lowered_above registers low zero above =
       let none : low ≡ 0 = omega arith in
       let same : lowered registers low ≡ 0 = ap (lowered registers) none in

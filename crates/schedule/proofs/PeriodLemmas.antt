@@ -31,15 +31,13 @@ module _ {period : Fraction} {gains : Gains} (are : AreGainsOf period gains)
   scale_is = size_same period.den (omega (arith, ints, period.lowest.some_den))
 
   -- the gain of a constraint at the period
-  gain_is : (it : Constraint)
-      → gain_of gains it ≡ (pos (nat_abs period.den) *ℤ it.weight)
-      -ℤ cond it.setup period.num (pos 0)
+  gain_is : (it : Constraint) → gain_of gains it
+      ≡ (pos (nat_abs period.den) *ℤ it.weight) -ℤ cond it.setup period.num (pos 0)
   gain_is it = rw (are.scale_is, are.setup_is, are.hold_is, scale_is) refl
 
   -- what satisfies the constraints at a finer scale does so by the gains
-  pub by_gains : (times : ℕ) (arrival : ℕ → ℤ)
-      → Satisfies constraints (nat_abs period.den * times) (period.num *ℤ pos times) arrival
-      → SatisfiesGains constraints gains times arrival
+  pub by_gains : (times : ℕ) (arrival : ℕ → ℤ) → Satisfies constraints (nat_abs period.den * times)
+      (period.num *ℤ pos times) arrival → SatisfiesGains constraints gains times arrival
   by_gains times arrival satisfied place default within =
       let it : Constraint = get_or constraints place default in
       let asked : ℤ = pos (nat_abs period.den) *ℤ it.weight in
@@ -47,10 +45,9 @@ module _ {period : Fraction} {gains : Gains} (are : AreGainsOf period gains)
       let met : (arrival it.tail +ℤ (pos times *ℤ asked))
       ≤ℤ (arrival it.head +ℤ (pos times *ℤ due)) =
       subst (λ z. (arrival it.tail +ℤ z) ≤ℤ (arrival it.head +ℤ (pos times *ℤ due)))
-      (scale-finer (nat_abs period.den) times it.weight)
-      (subst (λ z. (arrival it.tail +ℤ (pos (nat_abs period.den * times) *ℤ it.weight))
-      ≤ℤ (arrival it.head +ℤ z)) (due_times it.setup period.num (pos times))
-      (satisfied place default within)) in
+      (scale-finer (nat_abs period.den) times it.weight) (subst
+      (λ z. (arrival it.tail +ℤ (pos (nat_abs period.den * times) *ℤ it.weight)) ≤ℤ (arrival it.head
+      +ℤ z)) (due_times it.setup period.num (pos times)) (satisfied place default within)) in
       subst (λ z. (arrival it.tail +ℤ z) ≤ℤ arrival it.head)
       (sym (ap (λ z. pos times *ℤ z) (gain_is it) ∙ scale-sub times asked due))
       (as_gain (arrival it.tail) (arrival it.head) (pos times *ℤ asked) (pos times *ℤ due) met)
@@ -59,9 +56,8 @@ module _ {period : Fraction} {gains : Gains} (are : AreGainsOf period gains)
   pub admits_gains : IsAdmittedBy constraints period → AdmitsGains constraints gains
   admits_gains admitted = (
     admitted.0,
-    by_gains 1 admitted.0
-        (subst (λ n. Satisfies constraints n (period.num *ℤ pos 1) admitted.0) (omega arith)
-        (subst (λ (z : ℤ). Satisfies constraints (nat_abs period.den) z admitted.0)
+    by_gains 1 admitted.0 (subst (λ n. Satisfies constraints n (period.num *ℤ pos 1) admitted.0)
+        (omega arith) (subst (λ (z : ℤ). Satisfies constraints (nat_abs period.den) z admitted.0)
         (once_is period.num) admitted.1)),
   )
 
@@ -73,9 +69,8 @@ module _ {period : Fraction} {gains : Gains} (are : AreGainsOf period gains)
       let asked : ℤ = pos (nat_abs period.den) *ℤ it.weight in
       let due : ℤ = cond it.setup period.num (pos 0) in
       subst (λ z. (arrival it.tail +ℤ asked) ≤ℤ (arrival it.head +ℤ z)) (due_of it.setup period.num)
-      (asked_once (arrival it.tail) (arrival it.head) asked due
-      (subst (λ z. (arrival it.tail +ℤ (pos 1 *ℤ z)) ≤ℤ arrival it.head) (gain_is it)
-      (satisfied place default within)))
+      (asked_once (arrival it.tail) (arrival it.head) asked due (subst (λ z. (arrival
+      it.tail +ℤ (pos 1 *ℤ z)) ≤ℤ arrival it.head) (gain_is it) (satisfied place default within)))
 
   -- the least by the gains are the least at the period
   pub least_at_period : (at : List ℤ) → AreLeastArrivalsBy constraints gains at
@@ -89,9 +84,8 @@ module _ {period : Fraction} {gains : Gains} (are : AreGainsOf period gains)
 
   -- and they are within the weights
   pub bound_at_period : (at : List ℤ) → AreSmallConstraints (length at) constraints
-      → IsSmallPeriod period → IsAdmittedBy constraints period
-      → AreLeastArrivalsBy constraints gains at
-      → AreWithinWeights constraints (nat_abs period.den) at
+      → IsSmallPeriod period → IsAdmittedBy constraints period → AreLeastArrivalsBy
+      constraints gains at → AreWithinWeights constraints (nat_abs period.den) at
   bound_at_period at small range admitted least =
       AreWithinWeights-least constraints period gains at are range
       (record { small = small; admitted = admits_gains admitted }) least.least
@@ -100,6 +94,5 @@ module _ {period : Fraction} {gains : Gains} (are : AreGainsOf period gains)
   pub small_at_period : (at : List ℤ) → AreSmallConstraints (length at) constraints
       → IsSmallPeriod period → IsAdmittedBy constraints period
       → AreLeastArrivalsBy constraints gains at → All (IsBelow (10 ^ 19)) at
-  small_at_period at small range admitted least =
-      small_within constraints period at (10 ^ 19) (omega arith) small range least.from_zero
-      (bound_at_period at small range admitted least)
+  small_at_period at small range admitted least = small_within constraints period at (10 ^ 19)
+      (omega arith) small range least.from_zero (bound_at_period at small range admitted least)

@@ -6,14 +6,12 @@ use Rattle.cts_model.specs.declared.schedule.Lead.{Lead}
 
 module _ {constraints : List Constraint} {period : Fraction} {at : List ℤ} {looked : ℕ}
     {old new : Reach} {register : ℕ} {lead : Lead}
-    (reaching : IsReaching constraints period at looked old)
-    (added : IsAdded register lead old new) (within : register < length at)
-    (first : get_or old.reached.items register false ≡ false) where
+    (reaching : IsReaching constraints period at looked old) (added : IsAdded register lead old new)
+    (within : register < length at) (first : get_or old.reached.items register false ≡ false) where
   -- the register is reached
   pub flag_here : IsReached new register
-  flag_here = ap (λ (l : List Bool). get_or l register false) added.flags
-      ∙ get_or-set_same old.reached.items register true false
-      (omega (arith, within, reaching.flags))
+  flag_here = ap (λ (l : List Bool). get_or l register false) added.flags ∙ get_or-set_same
+      old.reached.items register true false (omega (arith, within, reaching.flags))
 
   -- of the others the same are
   flag_there : (other : ℕ) → other ≢ register
@@ -65,9 +63,8 @@ module _ {constraints : List Constraint} {period : Fraction} {at : List ℤ} {lo
   }
 
   -- a lead from what is reached stands
-  led_still : (other : ℕ) (it : Lead) → IsFromReached old it
-      → IsLead (Contains constraints) period at old.leads.items other it
-      → IsLead (Contains constraints) period at new.leads.items other it
+  led_still : (other : ℕ) (it : Lead) → IsFromReached old it → IsLead (Contains constraints) period
+      at old.leads.items other it → IsLead (Contains constraints) period at new.leads.items other it
   led_still other Zero from led = led
   led_still other (Tight depth constraint) from led = record {
     late = led.late;
@@ -88,33 +85,28 @@ module _ {constraints : List Constraint} {period : Fraction} {at : List ℤ} {lo
   module _ (led : IsLead (Contains constraints) period at old.leads.items register lead)
       (from : IsFromReached old lead) (low : depth_of lead ≤ length old.queue.items + 1) where
     -- each that is reached has its lead
-    led_now : (other : ℕ) → IsReached new other
-        → IsLead (Contains constraints) period at new.leads.items other
-        (lead_at new.leads.items other)
+    led_now : (other : ℕ) → IsReached new other → IsLead
+        (Contains constraints) period at new.leads.items other (lead_at new.leads.items other)
     led_now other reached = elim (cases_eq other register) [
       | inl same ↦
-          subst (λ r. IsLead (Contains constraints) period at new.leads.items r
-          (lead_at new.leads.items r))
-          (sym same) (subst (IsLead (Contains constraints) period at new.leads.items register)
-          (sym lead_here) (led_still register lead from led))
+          subst (λ r. IsLead (Contains constraints) period at new.leads.items
+          r (lead_at new.leads.items r)) (sym same) (subst (IsLead (Contains constraints)
+          period at new.leads.items register) (sym lead_here) (led_still register lead from led))
       | inr apart ↦
           let before = sym (flag_there other apart) ∙ reached in
           subst (IsLead (Contains constraints) period at new.leads.items other)
-          (sym (lead_there other apart))
-          (led_still other (lead_at old.leads.items other) (reaching.from other before)
-          (reaching.led other before))
+          (sym (lead_there other apart)) (led_still other
+          (lead_at old.leads.items other) (reaching.from other before) (reaching.led other before))
     ]
 
     -- from one that is reached
-    from_now : (other : ℕ) → IsReached new other
-        → IsFromReached new (lead_at new.leads.items other)
+    from_now : (other : ℕ) → IsReached new other → IsFromReached new (lead_at new.leads.items other)
     from_now other reached = elim (cases_eq other register) [
       | inl same ↦ subst (λ r. IsFromReached new (lead_at new.leads.items r)) (sym same)
           (subst (IsFromReached new) (sym lead_here) (from_still lead from))
       | inr apart ↦
-          subst (IsFromReached new) (sym (lead_there other apart))
-          (from_still (lead_at old.leads.items other)
-          (reaching.from other (sym (flag_there other apart) ∙ reached)))
+          subst (IsFromReached new) (sym (lead_there other apart)) (from_still (lead_at
+          old.leads.items other) (reaching.from other (sym (flag_there other apart) ∙ reached)))
     ]
 
     -- no depth is above the queue's length
@@ -164,12 +156,10 @@ module _ {constraints : List Constraint} {period : Fraction} {at : List ℤ} {lo
         )
 
     -- the register is reached by its lead, where it is the next that is looked at or one before
-    pub IsReaching-added : (next : ℕ) → register < next → looked ≤ next
-        → ((other : ℕ) → other < next → (other < looked) ⊎ (other ≡ register))
-        → IsReaching constraints period at next new
+    pub IsReaching-added : (next : ℕ) → register < next → looked ≤ next → ((other : ℕ) → other
+        < next → (other < looked) ⊎ (other ≡ register)) → IsReaching constraints period at next new
     IsReaching-added next below over split = record {
-      flags = ap length added.flags
-          ∙ (length-set old.reached.items register true ∙ reaching.flags);
+      flags = ap length added.flags ∙ (length-set old.reached.items register true ∙ reaching.flags);
       long = ap length added.leads ∙ (length-set old.leads.items register lead ∙ reaching.long);
       zeros = λ other early zero. elim (split other early) [
         | inl before ↦ still other (reaching.zeros other before zero)

@@ -17,9 +17,8 @@ zero_first : (times : ℕ) (other : ℤ) → pos 0 ≤ℤ other → (pos times *
 zero_first times other from = omega (arith, ints)
 
 -- arrivals of 0 can be raised
-pub CanRaise-zero : {constraints : List Constraint} {gains : Gains} (registers : ℕ)
-    → CanSchedule constraints gains registers
-    → CanRaise constraints gains (replicate registers (pos 0))
+pub CanRaise-zero : {constraints : List Constraint} {gains : Gains} (registers : ℕ) → CanSchedule
+    constraints gains registers → CanRaise constraints gains (replicate registers (pos 0))
 CanRaise-zero {constraints} {gains} registers can = record {
   can = subst (CanSchedule constraints gains) (sym long) can;
   rising = record {
@@ -50,9 +49,8 @@ module _ {constraints : List Constraint} {gains : Gains} {old new : List ℤ}
     rising = record {
       from_zero = raised.low (pos 0) ready.rising.from_zero;
       least = λ times other some others satisfied.
-          raised.below times other satisfied
-          (ready.rising.least times other some
-          (subst (λ n. AreFromZero n other) raised.registers others) satisfied);
+          raised.below times other satisfied (ready.rising.least
+          times other some (subst (λ n. AreFromZero n other) raised.registers others) satisfied);
     };
   }
 

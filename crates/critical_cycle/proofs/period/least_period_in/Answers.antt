@@ -4,8 +4,7 @@ use Rattle.critical_cycle.proofs.PeriodLemmas.{floor_can_try, floor_exactly, flo
 use Rattle.critical_cycle.proofs.period.least_period_in.Goals as goal
 
 pub greatest_ratio_in-requires-clause-first : goal.greatest_ratio_in-requires-clause-first
-greatest_ratio_in-requires-clause-first c =
-    floor_can_try _ c.args.floor c.of-first.result
+greatest_ratio_in-requires-clause-first c = floor_can_try _ c.args.floor c.of-first.result
     (record { scale_is = refl; period_is = refl; every_is = refl }) c.requires.floor
     (floor_is c.args.floor c.of-first.result c.requires.floor c.of-first.ensures.value
     c.of-first.ensures.den)
@@ -27,10 +26,8 @@ returns-clause-floor c = floor_exactly c.args.constraints.now c.args.floor c.per
     (returns-clause-period c)
 
 pub returns-clause-small : goal.returns-clause-small
-returns-clause-small c =
-    subst HasSmallValue (sym c.period_of.ensures)
+returns-clause-small c = subst HasSmallValue (sym c.period_of.ensures)
     (small_right (record { scale_is = refl; period_is = refl; every_is = refl })
-    c.args.constraints.now
-    (floor_is c.args.floor c.of-first.result c.requires.floor c.of-first.ensures.value
-    c.of-first.ensures.den) c.requires.floor c.greatest_ratio_in.result
-    c.greatest_ratio_in.ensures.ratio)
+    c.args.constraints.now (floor_is
+    c.args.floor c.of-first.result c.requires.floor c.of-first.ensures.value c.of-first.ensures.den)
+    c.requires.floor c.greatest_ratio_in.result c.greatest_ratio_in.ensures.ratio)

@@ -34,14 +34,12 @@ record AreSums (measure : Measure) (steps : List Constraint) (weight count : ℤ
   count_same : to_z w128 (of_z w128 count) ≡ count
 
 -- they are the sums in the measure
-sums_are : (measure : Measure) (constraints : List Constraint) (cycle : List ℕ)
-    (weight count whole many : ℤ) → AreWithin constraints cycle → length cycle ≤ 4097
-    → All (λ constraint. IsBelow (10 ^ 11) constraint.weight) constraints
-    → weight ≡ total_weight (constraints_at constraints cycle)
+sums_are : (measure : Measure) (constraints : List Constraint) (cycle : List ℕ) (weight count whole
+    many : ℤ) → AreWithin constraints cycle → length cycle ≤ 4097 → All (λ constraint. IsBelow (10
+    ^ 11) constraint.weight) constraints → weight ≡ total_weight (constraints_at constraints cycle)
     → count ≡ pos (total_count (constraints_at constraints cycle))
-    → whole ≡ (measure.scale *ℤ weight) -ℤ (measure.period *ℤ count)
-    → many ≡ (if measure.every then pos (length cycle) else count)
-    → AreSums measure (constraints_at constraints cycle) whole many
+    → whole ≡ (measure.scale *ℤ weight) -ℤ (measure.period *ℤ count) → many ≡ (if measure.every then
+    pos (length cycle) else count) → AreSums measure (constraints_at constraints cycle) whole many
 sums_are measure constraints cycle weight count whole many within few each weighs counts whole_is
     many_is =
     let steps = constraints_at constraints cycle in
@@ -69,16 +67,14 @@ sums_are measure constraints cycle weight count whole many within few each weigh
     same z small = omega (arith, ints, small.above, small.below)
 
 pub exceed-requires-clause-weight : goal.exceed-requires-clause-weight
-exceed-requires-clause-weight c =
-    (sums_are c.args.measure c.args.constraints.now c.args.cycle.now _ _ _ _ c.requires.within
-    c.requires.few c.requires.small c.of.ensures.weight c.of.ensures.count
-    c.measured-sums.ensures.weight c.measured-sums.ensures.count).weight_small
+exceed-requires-clause-weight c = (sums_are c.args.measure c.args.constraints.now
+    c.args.cycle.now _ _ _ _ c.requires.within c.requires.few c.requires.small c.of.ensures.weight
+    c.of.ensures.count c.measured-sums.ensures.weight c.measured-sums.ensures.count).weight_small
 
 pub exceed-requires-clause-count : goal.exceed-requires-clause-count
-exceed-requires-clause-count c =
-    (sums_are c.args.measure c.args.constraints.now c.args.cycle.now _ _ _ _ c.requires.within
-    c.requires.few c.requires.small c.of.ensures.weight c.of.ensures.count
-    c.measured-sums.ensures.weight c.measured-sums.ensures.count).count_small
+exceed-requires-clause-count c = (sums_are c.args.measure c.args.constraints.now
+    c.args.cycle.now _ _ _ _ c.requires.within c.requires.few c.requires.small c.of.ensures.weight
+    c.of.ensures.count c.measured-sums.ensures.weight c.measured-sums.ensures.count).count_small
 
 pub exceed-requires-clause-num : goal.exceed-requires-clause-num
 exceed-requires-clause-num c =
@@ -89,19 +85,22 @@ returns-then-not-exceed c =
     let sums = sums_are c.args.measure c.args.constraints.now c.args.cycle.now _ _ _ _
     c.requires.within c.requires.few c.requires.small c.of.ensures.weight c.of.ensures.count
     c.measured-sums.ensures.weight c.measured-sums.ensures.count in
-    no_gain c.args.measure c.args.ratio
-    (constraints_at c.args.constraints.now c.args.cycle.now) _ _ sums.weighs sums.counts
-    (λ more. true≢false (sym (c.if-not-exceed.ensures.1 more)))
+    no_gain c.args.measure c.args.ratio (constraints_at c.args.constraints.now c.args.cycle.now)
+    _ _ sums.weighs sums.counts (λ more. true≢false (sym (c.if-not-exceed.ensures.1 more)))
 
 pub returns-then-sums-eq0 : goal.returns-then-sums-eq0
 returns-then-sums-eq0 c =
     let sums = sums_are c.args.measure c.args.constraints.now c.args.cycle.now _ _ _ _
     c.requires.within c.requires.few c.requires.small c.of.ensures.weight c.of.ensures.count
     c.measured-sums.ensures.weight c.measured-sums.ensures.count in
-    never_counts c.args.measure c.args.ratio
-    (constraints_at c.args.constraints.now c.args.cycle.now) _ _ sums.weighs sums.counts
-    (omega (arith, ints, sums.counts, sums.count_small.below, c.if-sums-eq0.true))
-    (c.if-not-exceed.ensures.0 refl)
+    never_counts c.args.measure c.args.ratio (constraints_at
+    c.args.constraints.now c.args.cycle.now) _ _ sums.weighs sums.counts (omega (
+      arith,
+      ints,
+      sums.counts,
+      sums.count_small.below,
+      c.if-sums-eq0.true,
+    )) (c.if-not-exceed.ensures.0 refl)
 
 pub of-requires-2-clause-some_den : goal.of-requires-2-clause-some_den
 of-requires-2-clause-some_den c =

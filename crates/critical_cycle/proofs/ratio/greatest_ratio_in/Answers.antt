@@ -9,8 +9,7 @@ look_at_short_cycles-requires c =
     c.from_zero-relaxation.ensures.values
     ∙ length-replicate (length c.into_vec.result.items) (pos 0) ∙ ap length c.into_vec.ensures in
     record {
-      search = c.at_first-search.ensures.search c.as_slice-list.result.now
-          (subst (λ n. AreSmallConstraints n c.as_slice-list.result.now) (sym long)
-          (subst (AreSmallConstraints (length c.args.values)) (sym c.as_slice-list.ensures)
-          c.requires.small));
+      search = c.at_first-search.ensures.search c.as_slice-list.result.now (subst (λ n.
+          AreSmallConstraints n c.as_slice-list.result.now) (sym long) (subst (AreSmallConstraints
+          (length c.args.values)) (sym c.as_slice-list.ensures) c.requires.small));
     }

@@ -23,20 +23,15 @@ loop-register-preserved c = (
 )
 
 pub returns-then-register-start-clause-within : goal.returns-then-register-start-clause-within
-returns-then-register-start-clause-within c =
-    (round_gone _ _ _ _ _ _ c.loop-register.invariant.1 c.requires.heads _
-    c.if-register-start.true).within
+returns-then-register-start-clause-within c = (round_gone
+    _ _ _ _ _ _ c.loop-register.invariant.1 c.requires.heads _ c.if-register-start.true).within
 
 pub returns-then-register-start-clause-cycle : goal.returns-then-register-start-clause-cycle
-returns-then-register-start-clause-cycle c =
-    gone_cycle _ _ _ c.args.start _
-    (round_gone _ _ _ _ _ _ c.loop-register.invariant.1 c.requires.heads _
-    c.if-register-start.true) (omega
-    (arith, length-set c.loop-register.places (c.loop-register.at - 1)))
+returns-then-register-start-clause-cycle c = gone_cycle _ _ _ c.args.start _
+    (round_gone _ _ _ _ _ _ c.loop-register.invariant.1 c.requires.heads _ c.if-register-start.true)
+    (omega (arith, length-set c.loop-register.places (c.loop-register.at - 1)))
 
 pub returns-then-register-start-clause-gains : goal.returns-then-register-start-clause-gains
-returns-then-register-start-clause-gains c =
-    gone_gains _ _ _ c.args.start _
-    (round_gone _ _ _ _ _ _ c.loop-register.invariant.1 c.requires.heads _
-    c.if-register-start.true) (omega
-    (arith, length-set c.loop-register.places (c.loop-register.at - 1)))
+returns-then-register-start-clause-gains c = gone_gains _ _ _ c.args.start _
+    (round_gone _ _ _ _ _ _ c.loop-register.invariant.1 c.requires.heads _ c.if-register-start.true)
+    (omega (arith, length-set c.loop-register.places (c.loop-register.at - 1)))

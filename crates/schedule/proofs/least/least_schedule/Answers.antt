@@ -10,17 +10,14 @@ least_arrivals-requires-clause-admitted c =
 
 pub returns-clause-least : goal.returns-clause-least
 returns-clause-least c =
-    least_at_period c.gains_of.ensures c.args.constraints.now c.in_ok-at.at
-    c.in_ok-at.ensures.least
+    least_at_period c.gains_of.ensures c.args.constraints.now c.in_ok-at.at c.in_ok-at.ensures.least
 
 pub returns-clause-bound : goal.returns-clause-bound
-returns-clause-bound c =
-    bound_at_period c.gains_of.ensures c.args.constraints.now c.in_ok-at.at
+returns-clause-bound c = bound_at_period c.gains_of.ensures c.args.constraints.now c.in_ok-at.at
     (subst (λ n. AreSmallConstraints n c.args.constraints.now) (sym c.in_ok-at.ensures.registers)
     c.requires.small) c.requires.period c.requires.admitted c.in_ok-at.ensures.least
 
 pub returns-clause-small : goal.returns-clause-small
-returns-clause-small c =
-    small_at_period c.gains_of.ensures c.args.constraints.now c.in_ok-at.at
+returns-clause-small c = small_at_period c.gains_of.ensures c.args.constraints.now c.in_ok-at.at
     (subst (λ n. AreSmallConstraints n c.args.constraints.now) (sym c.in_ok-at.ensures.registers)
     c.requires.small) c.requires.period c.requires.admitted c.in_ok-at.ensures.least

@@ -14,7 +14,6 @@ returns-clause-least c =
     (least_settled c.satisfy.ensures.raised c.satisfy.ensures.satisfied c.requires)
 
 pub returns-clause-small : goal.returns-clause-small
-returns-clause-small c =
-    subst (All (IsBelow (2 ^ 93))) (sym c.from_vec.ensures)
-    (small_ready c.satisfy.new.self.values.items (2 ^ 93) (omega arith)
-    (CanRaise-raised c.satisfy.ensures.raised c.requires))
+returns-clause-small c = subst
+    (All (IsBelow (2 ^ 93))) (sym c.from_vec.ensures) (small_ready c.satisfy.new.self.values.items
+    (2 ^ 93) (omega arith) (CanRaise-raised c.satisfy.ensures.raised c.requires))

@@ -9,11 +9,9 @@ returns c =
     let to_fits : FitsSigned w128 (arrival_of at it.head) = search rules in
     let from_fits : FitsSigned w128 (arrival_of at it.tail) = search rules in
     tight_read (arrival_of at it.head) (arrival_of at it.tail) c.gain-gain.result
-    (c.args.period.den *ℤ it.weight) c.args.period.num it.setup
-    (c.requires.from_zero it.head c.requires.small.head)
-    (c.requires.from_zero it.tail c.requires.small.tail) to_fits from_fits
-    c.gain-gain.ensures.small
-    (c.gain-gain.ensures.gain ∙ rw (
+    (c.args.period.den *ℤ it.weight) c.args.period.num it.setup (c.requires.from_zero
+    it.head c.requires.small.head) (c.requires.from_zero it.tail c.requires.small.tail)
+    to_fits from_fits c.gain-gain.ensures.small (c.gain-gain.ensures.gain ∙ rw (
       c.gains_of.ensures.scale_is,
       c.gains_of.ensures.setup_is,
       c.gains_of.ensures.hold_is,

@@ -8,9 +8,8 @@ invariant_of-result c =
     let ratio = c.args.ratio in
     let scale = scale_read measure ratio c.requires c.den.result c.product.result
     c.den.ensures.value c.product.ensures.value in
-    let setup = setup_read measure ratio c.requires c.den-2.result c.num.result
-    c.product-2.result c.den-2.ensures.value c.num.ensures.value c.product-2.ensures.value
-    c.product-2.ensures.small in
+    let setup = setup_read measure ratio c.requires c.den-2.result c.num.result c.product-2.result
+    c.den-2.ensures.value c.num.ensures.value c.product-2.ensures.value c.product-2.ensures.small in
     let hold = hold_read measure ratio c.requires c.counted_by_hold.result
     c.counted_by_hold.ensures in
     record { valid = rw (scale, setup, hold) (trial_small measure ratio c.requires) }

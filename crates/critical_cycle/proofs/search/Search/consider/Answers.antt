@@ -14,9 +14,8 @@ returns c =
     let search = c.requires.search in
     let before = c.args.self.now in
     let places = c.put_last-self.new.places in
-    let whole : (with_items before.places places).items ≡ places =
-    with_items_is before.places places
-    (omega (arith, c.put_last-self.ensures.len, c.deref_mut.ensures.len)) in
+    let whole : (with_items before.places places).items ≡ places = with_items_is
+    before.places places (omega (arith, c.put_last-self.ensures.len, c.deref_mut.ensures.len)) in
     let cycle : drop c.put_last-self.result (with_items before.places places).items
     ≡ c.args.cycle.now = ap (λ ps. drop c.put_last-self.result ps) whole
     ∙ c.put_last-self.ensures.last in

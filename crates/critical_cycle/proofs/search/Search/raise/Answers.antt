@@ -17,9 +17,8 @@ returns c =
     let before = c.args.self.now in
     let constraints = c.args.constraints.now in
     let places = c.go_round-self.new.places in
-    let whole : (with_items before.places places).items ≡ places =
-    with_items_is before.places places
-    (omega (arith, c.go_round-self.ensures.len, c.deref_mut.ensures.len)) in
+    let whole : (with_items before.places places).items ≡ places = with_items_is
+    before.places places (omega (arith, c.go_round-self.ensures.len, c.deref_mut.ensures.len)) in
     let cycle : c.split_at.result.1.now ≡ drop c.go_round-self.result places =
     c.split_at.ensures.back ∙ ap (λ ps. drop c.go_round-self.result ps)
     (c.deref.ensures.value ∙ whole) in
@@ -29,12 +28,11 @@ returns c =
     let judged = subst (λ ps. IsRaise before.measure before.ratio (constraints_at constraints ps)
     c.raise_by-raise.result) cycle c.raise_by-raise.ensures in
     let steps = constraints_at constraints (drop c.go_round-self.result places) in
-    let shows = raise_shows before.measure constraints before.first _
-    (drop c.go_round-self.result places) before.shown c.raised-self.result before.ratio
-    c.raise_by-raise.result search.first search.shown ring.at_shown.greatest
-    c.go_round-self.ensures.within c.go_round-self.ensures.cycle
-    (not_kept before.measure before.ratio before.trial steps c.raise_by-raise.result
-    ring.at_shown.at gains judged) judged c.raised-self.ensures in
+    let shows = raise_shows before.measure constraints before.first _ (drop c.go_round-self.result
+    places) before.shown c.raised-self.result before.ratio c.raise_by-raise.result
+    search.first search.shown ring.at_shown.greatest c.go_round-self.ensures.within
+    c.go_round-self.ensures.cycle (not_kept before.measure before.ratio before.trial
+    steps c.raise_by-raise.result ring.at_shown.at gains judged) judged c.raised-self.ensures in
     record {
       search = record {
         room = search.room;

@@ -10,13 +10,11 @@ returns-clause-settled c =
     let now = c.reach_shown.new.self in
     let same = c.reach_shown.ensures.same in
     let at = c.reach_shown.ensures.reached c.if-not-reach_shown.false in
-    outcome _ _ _ _ c.settle.result
-    (λ satisfies.
-    subst (λ measure. IsSettled measure constraints before.first before.shown) same.measure
-    (subst (λ first. IsSettled now.measure constraints first before.shown) same.first
+    outcome _ _ _ _ c.settle.result (λ satisfies.
+    subst (λ measure. IsSettled measure constraints before.first before.shown)
+    same.measure (subst (λ first. IsSettled now.measure constraints first before.shown) same.first
     (subst (λ shown. IsSettled now.measure constraints now.first shown) c.reach_shown.ensures.shown
     (settled_at now.measure constraints now.first now.shown now.ratio now.trial
-    (value_of c.settle.new.self.values.items) at.greatest at.at satisfies))))
-    (λ register far.
+    (value_of c.settle.new.self.values.items) at.greatest at.at satisfies)))) (λ register far.
     record { far_up = far; at_shown = record { at = at.at; greatest = at.greatest } })
     c.settle.ensures.settled

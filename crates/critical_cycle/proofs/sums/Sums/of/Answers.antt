@@ -10,8 +10,7 @@ and-sums-requires-clause-weight c =
     let here = c.loop-place.invariant.0 in
     record {
       above = omega (arith, ints, small.above, here);
-      below =
-          omega (arith, ints, small.below, here);
+      below = omega (arith, ints, small.below, here);
     }
 
 pub and-sums-requires-clause-count : goal.and-sums-requires-clause-count
@@ -21,8 +20,7 @@ and-sums-requires-clause-count c =
     let here = c.loop-place.invariant.1 in
     record {
       above = omega (arith, ints, small.count, here);
-      below =
-          omega (arith, ints, small.count, here);
+      below = omega (arith, ints, small.count, here);
     }
 
 pub loop-place-preserved : goal.loop-place-preserved

@@ -11,10 +11,9 @@ returns-in_err-register-clause-reaches c =
     let within : c.loop-step.register < length parents =
     omega (arith, c.loop-step.invariant.0, c.requires.entries.parents) in
     let inside : c.loop-step._step < length parents = omega (arith, relaxation.parents.ok.0) in
-    let none : parent_of constraints parents c.loop-step.register ≡ None =
-    parent_read constraints parents c.loop-step.register c.index-parent.result.now within
-    c.index-parent.ensures ∙ slice_get_past constraints c.index-parent.result.now
-    c.in_err-register.ensures.lookup.3 in
+    let none : parent_of constraints parents c.loop-step.register ≡ None = parent_read
+    constraints parents c.loop-step.register c.index-parent.result.now within c.index-parent.ensures
+    ∙ slice_get_past constraints c.index-parent.result.now c.in_err-register.ensures.lookup.3 in
     subst (λ (o : Option ℕ). MatchOption o ((to : ℕ) → ReachesUp constraints parents c.args.from
     to → ⊥) (ReachesUp constraints parents c.args.from)) (sym c.from_residual.ensures)
     (λ to reaches. no_climb c.loop-step.invariant.1 inside none to reaches.0 reaches.1 reaches.2)

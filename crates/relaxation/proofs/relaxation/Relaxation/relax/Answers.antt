@@ -17,23 +17,20 @@ returns-then-offer-index c =
     let constraints = c.args.constraints.now in
     let read = IsRead-at constraints c.args.gains c.args.place c.args.self.now.values.items
     c.index.result.now c.gain.result c.index-2.result.now c.requires.constraints c.requires.place
-    c.requires.small c.index.ensures c.gain.ensures.gain c.gain.ensures.small
-    c.index-2.ensures in
+    c.requires.small c.index.ensures c.gain.ensures.gain c.gain.ensures.small c.index-2.ensures in
     relaxed_left constraints c.args.gains c.args.place (get_or constraints c.args.place nowhere)
-    c.args.self.now _ (slice_get-get_or constraints c.args.place nowhere c.requires.place)
-    (record {
+    c.args.self.now _ (slice_get-get_or constraints c.args.place nowhere c.requires.place) (record {
       met = left_read read c.if-offer-index.true;
       values = refl;
       parents = refl;
     })
 
 pub index_mut-requires : goal.index_mut-requires
-index_mut-requires c =
-    omega (
-      arith,
-      (c.requires.constraints.each c.args.place nowhere c.requires.place).head,
-      c.args.self.now.values.ok.0,
-    )
+index_mut-requires c = omega (
+  arith,
+  (c.requires.constraints.each c.args.place nowhere c.requires.place).head,
+  c.args.self.now.values.ok.0,
+)
 
 pub returns : goal.returns
 returns c =
@@ -41,12 +38,10 @@ returns c =
     let constraint : Constraint = get_or constraints c.args.place nowhere in
     let read = IsRead-at constraints c.args.gains c.args.place c.args.self.now.values.items
     c.index.result.now c.gain.result c.index-2.result.now c.requires.constraints c.requires.place
-    c.requires.small c.index.ensures c.gain.ensures.gain c.gain.ensures.small
-    c.index-2.ensures in
+    c.requires.small c.index.ensures c.gain.ensures.gain c.gain.ensures.small c.index-2.ensures in
     relaxed_raised constraints c.args.gains c.args.place constraint c.args.self.now
     c.keep_parent.new.self constraint.head (slice_get-get_or constraints c.args.place nowhere
-    c.requires.place)
-    (record {
+    c.requires.place) (record {
       head = refl;
       more = more_read read c.if-offer-index.false;
       values = c.keep_parent.ensures.values

@@ -3,8 +3,8 @@ use Rattle.relaxation.proofs.SettleLemmas.{IsSettling}
 use Rattle.relaxation.proofs.relaxation.Relaxation.satisfy.Given as goal
 
 abbrev pub invariant-loop-gains : goal.invariant-loop-gains
-invariant-loop-gains l = (parents : List ℕ) × IsSettling l.constraints l.gains l.sweeps
+invariant-loop-gains l = (parents : List ℕ) × IsSettling l.constraints l.gains l.before
     l.initial.self.values.items l.self.values.items parents
 
 abbrev pub decreases-loop-gains : goal.decreases-loop-gains
-decreases-loop-gains l = length l.initial.self.values.items - l.sweeps
+decreases-loop-gains l = length l.initial.self.values.items - l.before

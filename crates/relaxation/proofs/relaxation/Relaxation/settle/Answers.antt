@@ -44,15 +44,13 @@ returns-in-Some-climb-clause-settled c =
 pub returns-in-Some-climb-clause-admitted : goal.returns-in-Some-climb-clause-admitted
 returns-in-Some-climb-clause-admitted c = λ admitted.
     let settling = c.loop-changed.invariant.0 in
-    absurd (none_admitted c.requires.room.entries.small settling c.sweep.ensures.parents
-    (swept_own c.sweep.ensures c.in-Some.changed c.in-Some.is
-    (long_settling c.requires.room.entries.small settling) settling.ready) admitted
-    c.in-Some-climb.register c.in-Some-climb.ensures.reaches)
+    absurd (none_admitted c.requires.room.entries.small settling c.sweep.ensures.parents (swept_own
+    c.sweep.ensures c.in-Some.changed c.in-Some.is (long_settling c.requires.room.entries.small
+    settling) settling.ready) admitted c.in-Some-climb.register c.in-Some-climb.ensures.reaches)
 
 pub returns-in-Some-climb-clause-raised : goal.returns-in-Some-climb-clause-raised
-returns-in-Some-climb-clause-raised c =
-    (raised_later c.requires.room.entries.small c.loop-changed.invariant.0
-    c.sweep.ensures.raised).raised
+returns-in-Some-climb-clause-raised c = (raised_later
+    c.requires.room.entries.small c.loop-changed.invariant.0 c.sweep.ensures.raised).raised
 
 pub returns-in-Some-climb-clause-parents : goal.returns-in-Some-climb-clause-parents
 returns-in-Some-climb-clause-parents c = c.sweep.ensures.parents ∙ c.loop-changed.invariant.1
@@ -74,9 +72,8 @@ returns-clause-settled c =
     (long_settling c.requires.room.entries.small settling) settling.ready c.in_default.is
 
 pub returns-clause-raised : goal.returns-clause-raised
-returns-clause-raised c =
-    (raised_later c.requires.room.entries.small c.loop-changed.invariant.0
-    c.sweep.ensures.raised).raised
+returns-clause-raised c = (raised_later
+    c.requires.room.entries.small c.loop-changed.invariant.0 c.sweep.ensures.raised).raised
 
 pub returns-clause-parents : goal.returns-clause-parents
 returns-clause-parents c = c.sweep.ensures.parents ∙ c.loop-changed.invariant.1

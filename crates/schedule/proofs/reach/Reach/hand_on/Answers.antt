@@ -6,10 +6,9 @@ pub loop-mark-init : goal.loop-mark-init
 loop-mark-init c =
     let tails = c.requires.tails in
     let register = c.args.register in
-    IsHanding-none c.requires.reaching
-    (subst (IsLastBefore c.args.constraints.now (length c.args.constraints.now) register)
-    (sym (get_or_read c.args.tails.now.last.items register c.index-mark.result.now
-    (omega (arith, tails.lasts, c.requires.within)) c.index-mark.ensures 0))
+    IsHanding-none c.requires.reaching (subst (IsLastBefore c.args.constraints.now
+    (length c.args.constraints.now) register) (sym (get_or_read c.args.tails.now.last.items register
+    c.index-mark.result.now (omega (arith, tails.lasts, c.requires.within)) c.index-mark.ensures 0))
     (tails.last_is register c.requires.within))
 
 pub offer-requires-clause-place : goal.offer-requires-clause-place
@@ -36,6 +35,5 @@ loop-mark-preserved c =
     let read = get_or_read c.args.tails.now.before.items place c.index-mark-in-loop-mark.result.now
     (omega (arith, below, c.requires.tails.befores)) c.index-mark-in-loop-mark.ensures 0 in
     IsHanding-more c.loop-mark.invariant place (omega arith) c.in_ok-offer.ensures
-    c.index-mark-in-loop-mark.result.now
-    (subst (IsLastBefore constraints place (get_or constraints place nowhere).tail) (sym read)
-    (c.requires.tails.before_is place nowhere below))
+    c.index-mark-in-loop-mark.result.now (subst (IsLastBefore constraints place (get_or
+    constraints place nowhere).tail) (sym read) (c.requires.tails.before_is place nowhere below))

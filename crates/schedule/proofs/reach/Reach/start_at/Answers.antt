@@ -6,7 +6,6 @@ pub returns-clause-reaching : goal.returns-clause-reaching
 returns-clause-reaching c = λ constraints period reaching.
     let register = c.args.register in
     let zero : arrival_of c.args.at.now register ≡ pos 0 = search rules in
-    on_ok_weaker c.add.result
-    (λ added. IsReaching-added reaching added c.requires.within
-    (reaching.fresh register (omega arith)) zero tt (omega arith) (register + 1) (omega arith)
-    (omega arith) (next_or_before register)) c.add.ensures
+    on_ok_weaker c.add.result (λ added. IsReaching-added
+    reaching added c.requires.within (reaching.fresh register (omega arith)) zero tt (omega arith)
+    (register + 1) (omega arith) (omega arith) (next_or_before register)) c.add.ensures
