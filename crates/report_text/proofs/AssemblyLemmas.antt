@@ -1,5 +1,5 @@
 -- A report that is put together from its sections: how large its numbers are, and its lines.
-use Rattle.report_text.proofs.Vocabulary.{◌≡◌, ◌<◌, ◌≤◌, ◌-◌, ◌*◌, ◌^◌, ℕ, List, All, Option, Some, None, length, map, refl, sym, ap, arith, ◌+◌, ℤ, pos, neg_ℤ, to_z, of_z, [], ◌∷◌, ◌++◌, get_or, codes, ap₂, ◌∙◌, subst, append_assoc, drop, append-nil, slice_get, All-map, All-append, All-cons, All-nil, All-push, ints, drop_at, get_or-append-add, get_or-map, get_or-take, get_or_append_left, get_or_push, length-append, length-map, length-take, length_push, take_at, get_or_from_slice_get, slice_get-get_or, quotient_text, Circuit, Constraint, PeriodShow, Cycle, Floor, Version, Tech, IsBelow, IsPointBelow, HasSmallWeight, HasSmallWeights, IsBetweenRegisters, ShowsPeriodAmong, count_in, cycle_length, HasTimingBounds, HasTreeBounds, IsMergeShow, IsOfSize, IsSmallWire, IsSourceShow, IsWithinBounds, ShowsAmong, IsSmallMerge, Spells, lead_line, lines_below, merge_line_at, no_wire, node_line_at, origin, period_show_lines, register_line_at, report_lines, show_words, source_line, timing_lines, tree_lines, version_line, Words, line_for, count_line, period_line, register_line, text_of, IsSmallPeriod, arrival_of, grid_of, scheduled_length, Report, Root, Wire, root_of, source_of, AreSmallSlacks, Parts, timed_line, arrivals_in, begin_of, denoted_lines, lengths_in, merges_in, places_in, reaches_in, report_denoted, shows_in, sink_reach, sink_reaches, wires_in, lines_after, IsSmallCount, count_of, shown_line, HasParts, scale_in, DenotesConstraint, DenotesLead, SaysMerge, SaysNode, SaysSource, merged_line, placed_line, sourced_line, DenotesTimed, Timed, MergeLine, NodeLine, lines_of, Scale, cycle_forms, forms_after, w128}
+use Rattle.report_text.proofs.Vocabulary.{◌≡◌, ◌<◌, ◌≤◌, ◌-◌, ◌*◌, ◌^◌, ℕ, List, All, Option, Some, None, length, map, refl, sym, ap, arith, ◌+◌, ℤ, pos, neg_ℤ, to_z, of_z, [], ◌∷◌, ◌++◌, get_or, codes, ap₂, ◌∙◌, subst, append_assoc, drop, append-nil, slice_get, All-map, All-append, All-cons, All-nil, All-push, ints, drop_at, get_or-append-add, get_or-map, get_or-take, get_or_append_left, get_or_push, length-append, length-map, length-take, length_push, take_at, get_or_from_slice_get, slice_get-get_or, quotient_text, Circuit, Constraint, PeriodShow, Cycle, Floor, Version, Tech, IsBelow, IsPointBelow, HasSmallWeight, HasSmallWeights, IsBetweenRegisters, ShowsPeriodAmong, count_in, cycle_length, HasTimingBounds, HasTreeBounds, IsMergeShow, IsOfSize, IsSmallWire, IsSourceShow, IsWithinBounds, ShowsAmong, Spells, lead_line, lines_below, merge_line_at, no_wire, node_line_at, origin, period_show_lines, register_line_at, report_lines, show_words, source_line, timing_lines, tree_lines, version_line, Words, line_for, count_line, period_line, register_line, text_of, IsSmallPeriod, arrival_of, grid_of, scheduled_length, Report, Root, Wire, root_of, source_of, AreSmallSlacks, Parts, timed_line, arrivals_in, begin_of, denoted_lines, lengths_in, merges_in, places_in, reaches_in, report_denoted, shows_in, sink_reach, sink_reaches, wires_in, lines_after, IsSmallCount, count_of, shown_line, HasParts, scale_in, DenotesConstraint, DenotesLead, SaysMerge, SaysNode, SaysSource, merged_line, placed_line, sourced_line, DenotesTimed, Timed, MergeLine, NodeLine, lines_of, Scale, w128}
 use Rattle.std.specs.Prelude.{unsigned_abs}
 use Rattle.cts_model.specs.declared.schedule.Slack.{Slack}
 use Rattle.cts_model.proofs.GridLemmas.{scheduled_size}

@@ -1,10 +1,10 @@
 -- The first lines of a report, what shows its period, and the sections after it.
-use Rattle.report_text.proofs.Vocabulary.{◌≡◌, ℕ, Option, Some, None, List, [], ◌∷◌, codes, length, map, refl, ap, ◌∙◌, subst, arith, append_assoc, ◌≤◌, ◌+◌, ◌-◌, ◌*◌, ◌++◌, append-nil, range_with_len, length-replicate, Circuit, Constraint, Cycle, Version, First, Second, Words, count_line, line_for, HasSmallWeight, IsBetweenRegisters, Lead, ReportFault, Form, Scale, Pathed, PeriodLine, ShowLine, HasHeading, HasShown, IsSmallCount, shown_line, HasPathed, HasRows, Counted, IsFlawless, DenotesConstraint, DenotesPeriod, DenotesShow, DenotesLead, Left, Reads, ReadsLine, Stops, DenotesLine, DenotesVersion, DenotesTimed, Timed, HasBody, HasVersionLeads, forms_after, lead_forms, HasFirstFault}
+use Rattle.report_text.proofs.Vocabulary.{◌≡◌, ℕ, Option, Some, None, List, [], ◌∷◌, codes, map, refl, ap, ◌∙◌, subst, arith, append_assoc, ◌≤◌, ◌+◌, ◌-◌, ◌*◌, ◌++◌, append-nil, range_with_len, Circuit, Constraint, Cycle, Version, First, Second, Words, count_line, line_for, Lead, ReportFault, Form, Scale, Fraction, ShowLine, HasHeading, HasShown, IsSmallCount, shown_line, HasPathed, HasRows, Counted, IsFlawless, DenotesConstraint, DenotesPeriod, DenotesShow, DenotesLead, Left, Reads, ReadsLine, Stops, DenotesLine, DenotesVersion, DenotesTimed, Timed, HasBody, count_in, forms_after, HasFirstFault}
 use Rattle.cts_model.specs.declared.report.Version.TheVariants as version
 use Rattle.report_text.specs.declared.form.Form.TheVariants as form
 use Rattle.report_text.specs.declared.field.Keyword.TheVariants as word
 use Rattle.report_text.specs.declared.sections.Body.{Body}
-use Rattle.report_text.proofs.RowLemmas.{one_form, plain_lines, rows_all, rows_lines, counted_number, counted_read}
+use Rattle.report_text.proofs.RowLemmas.{one_form, rows_number, plain_lines, rows_all, rows_lines, counted_number, counted_read}
 use Rattle.report_text.proofs.WalkLemmas.{read_more, stop_after, stop_before}
 
 -- a line that is read by another scale
@@ -31,9 +31,9 @@ module _ {circuit : Circuit} {scale : Scale} {old first : Left} {version : Versi
   version_then other forms fault stops =
       stop_after (denoted.line.read other denoted.line.flawless) forms fault stops
 
-module _ {circuit : Circuit} {scale : Scale} {first second : Left} {period : PeriodLine}
+module _ {circuit : Circuit} {scale : Scale} {first second : Left} {period : Fraction}
     (denoted : DenotesLine circuit scale form.Period
-    (λ words line. DenotesPeriod words line.period) first second period) where
+    DenotesPeriod first second period) where
   -- a fault after the period
   pub period_then : (other : Scale) (forms : List Form) (fault : ReportFault)
       → Stops circuit other forms second fault
@@ -43,13 +43,12 @@ module _ {circuit : Circuit} {scale : Scale} {first second : Left} {period : Per
 
 -- the three lines
 pub heading_read : (circuit : Circuit) (scale : Scale)
-    (old first second new : Left) (version : Version) (period : PeriodLine) (show : ShowLine)
+    (old first second new : Left) (version : Version) (period : Fraction) (show : ShowLine)
     → DenotesLine circuit scale form.Version DenotesVersion old first version
-    → DenotesLine circuit scale form.Period (λ words line. DenotesPeriod words line.period)
-    first second period
+    → DenotesLine circuit scale form.Period DenotesPeriod first second period
     → DenotesLine circuit scale form.Show (λ words line. DenotesShow words line.count)
     second new show → HasHeading circuit old new
-    (record { version = version; period = period.period; count = show.count })
+    (record { version = version; period = period; count = show.count })
 heading_read circuit scale old first second new version period show is_version is_period is_show =
     record {
       lines = λ other. read_more (read_as _ _ _ _ _ _ old _ is_version.line is_version.line.flawless
@@ -88,9 +87,9 @@ cycle_shown {circuit} {scale} {count} {old} {new} cycle small has =
 
 -- and so do those with their paths
 pub pathed_shown : {circuit : Circuit} {scale : Scale} {count : ℕ} {old new : Left}
-    (pathed : Pathed) → IsSmallCount (Some count) → HasPathed circuit scale count old new pathed
+    (pathed : List Constraint × List (List ℕ)) → IsSmallCount (Some count) → HasPathed circuit scale count old new pathed
     → HasShown circuit scale Second (Some count) old new
-    (record { shown = Cycle pathed.cycle; paths = pathed.paths })
+    (record { shown = Cycle pathed.0; paths = pathed.1 })
 pathed_shown {circuit} {scale} {count} {old} {new} pathed small has = search arith
 
 -- the forms of three sections, after how many lines each has
@@ -120,32 +119,22 @@ stops_within {circuit} {scale} {lines} {old} {between} all a b more same fault r
 
 -- there are no more leads than registers
 leads_line : (circuit : Circuit) (scale : Scale) (version : Version) (count : ℕ)
-    (old new : Left) (leads : List Lead) → HasVersionLeads circuit scale version count old new leads
-    → new.line ≤ old.line + count
+    (old new : Left) (leads : List Lead)
+    → HasRows circuit scale (λ number. form.Lead) (λ number. DenotesLead circuit) 0
+    (count_in version count) old new leads → new.line ≤ old.line + count
 leads_line circuit scale version.First count old new leads has = omega (arith, has.read.number)
-leads_line circuit scale version.Second count old new leads has = search (arith, length-replicate)
+leads_line circuit scale version.Second count old new leads has =
+    omega (arith, rows_number (λ number. form.Lead) (λ number. DenotesLead circuit) 0 has)
 
 -- so the lines of both are at most twice as many, and one
-pub lines_before_merges : {circuit : Circuit} {scale : Scale} {version : Version} {count : ℕ}
+pub lines_before_merges : {circuit : Circuit} {scale : Scale} (version : Version) {count : ℕ}
     {old between new : Left} {timings : List Timed} {leads : List Lead}
     → Counted circuit scale word.Registers form.Register (DenotesTimed circuit scale) 0 count old
-    between timings → HasVersionLeads circuit scale version count between new leads
+    between timings → HasRows circuit scale (λ number. form.Lead) (λ number. DenotesLead circuit) 0
+    (count_in version count) between new leads
     → new.line ≤ old.line + 1 + 2 * count
-lines_before_merges {circuit} {scale} {version} {count} {old} {between} {new} {timings} {leads}
+lines_before_merges {circuit} {scale} version {count} {old} {between} {new} {timings} {leads}
     registers has = search (arith, counted_number, leads_line)
-
--- the second version has the leads of all registers
-pub leads_given : {circuit : Circuit} {scale : Scale} {count : ℕ} {old new : Left}
-    (leads : List Lead)
-    → HasRows circuit scale (λ number. form.Lead) (λ number. DenotesLead circuit) 0 count old new
-    leads → HasVersionLeads circuit scale version.Second count old new leads
-leads_given {circuit} {scale} {count} {old} {new} leads has = record {
-  lines = has.lines;
-  read = subst (λ forms. Reads circuit scale forms has.lines old new) (one_form form.Lead 0 count)
-      has.read;
-  each = has.each;
-  many = has.many;
-}
 
 module _ {circuit : Circuit} {scale : Scale} {version : Version} {count : ℕ} {old new : Left}
     {body : Body} (has : HasBody circuit scale version count old new body) where

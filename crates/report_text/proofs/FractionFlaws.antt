@@ -1,6 +1,6 @@
 -- What is wrong with a word that is to be a fraction, by what is read of it; and how many steps the
 -- value of a fraction in lowest terms is.
-use Rattle.report_text.proofs.Vocabulary.{◌≡◌, ◌<◌, ◌≤◌, ◌+◌, ◌-◌, ◌*◌, ◌%◌, ℕ, zero, suc, ℤ, pos, negsuc, neg_ℤ, ◌*ℤ◌, ◌+ℤ◌, ◌≤ℤ◌, nat_abs, inl, inr, refl, sym, ap, ◌∙◌, subst, arith, ◌↔◌, ◌^◌, ◌<ℤ◌, Bool, IsTrue, List, Option, Some, None, Result, Ok, Err, IsErrAnd, codes, ◌∣◌, IsGcd, int_div, int_rem, dvd-mul_right, cases_lt, ints, quot-rem, unsigned_abs-mul, mod-eq-zero_of_dvd, IsLowest, fraction_text, SpellsWhole, SpellsQuotient, HaveSmallSizes, IsNoFraction, kept_size, Fraction, same_factor, negative, few_digits, slash_differs, fraction_spelled, one_quotient, plain_no_minus, quotient_some, Circuit, IsBelow, AreSteps, AreFewSteps, IsFormed, IsFractionForm, IsWholeSteps, WordHasFlaw, Period, Steps, Flaw, Unknown, Unfit, Large, HasStepsFlaw, IsBetween, IsNegativeQuotient, IsRefusedFor, flaw_in, lowest_quotients, divisor_up_to, up_to_second, ◌/◌, mul-div_cancel'}
+use Rattle.report_text.proofs.Vocabulary.{◌≡◌, ◌<◌, ◌*◌, ◌%◌, ℕ, zero, suc, ℤ, pos, negsuc, neg_ℤ, ◌*ℤ◌, ◌+ℤ◌, ◌≤ℤ◌, nat_abs, inl, inr, refl, sym, ap, ◌∙◌, subst, arith, ◌↔◌, ◌^◌, ◌<ℤ◌, Bool, IsTrue, List, Option, Some, None, Result, Ok, Err, IsErrAnd, codes, ◌∣◌, int_div, int_rem, dvd-mul_right, ints, quot-rem, unsigned_abs-mul, mod-eq-zero_of_dvd, IsLowest, fraction_text, SpellsWhole, SpellsQuotient, HaveSmallSizes, IsNoFraction, kept_size, Fraction, same_factor, negative, few_digits, slash_differs, fraction_spelled, one_quotient, plain_no_minus, quotient_some, Circuit, IsBelow, AreSteps, AreFewSteps, IsFormed, IsFractionForm, IsWholeSteps, WordHasFlaw, Period, Steps, Flaw, Unknown, Unfit, Large, HasStepsFlaw, IsBetween, IsNegativeQuotient, IsRefusedFor, flaw_in, lowest_quotients, divisor_up_to, up_to_second, ◌/◌, mul-div_cancel'}
 use Rattle.cts_base.proofs.OneFraction.{one_fraction}
 use Rattle.std.proofs.Math.IntN.{*ℤ_comm}
 use Rattle.report_text.specs.LineFields.{Slack}

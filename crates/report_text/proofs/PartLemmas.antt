@@ -1,5 +1,5 @@
 -- What the first lines of a text tell of the lines after them, and where its first fault is.
-use Rattle.report_text.proofs.Vocabulary.{◌≡◌, ◌≢◌, ◌≤◌, ◌^◌, ℕ, zero, suc, pos, Option, Some, None, List, [], ◌∷◌, ◌++◌, map, length, get_or, codes, if◌then◌else◌, refl, sym, ap, subst, ◌∙◌, append-nil, arith, ◌+◌, ℤ, negsuc, ◌≤ℤ◌, Bool, true, false, cond, ne_eqb, slice_split, after_first, list_any, bytes_eq, length-replicate, Decides-int_eq, ints, signed_decimal, int_eq, digits_value, Circuit, Version, First, Second, Tech, Words, period_line, version_line, IsSmallPeriod, ReportFault, NoMemory, Scale, Heading, cycle_forms, forms_after, forms_of, HasHeading, HasShown, IsSmallCount, count_of, heading_forms, shown_line, scale_in, whole, HasFault, HasFirstFault, cycle_denoted, den_denoted, is_line_feed, scale_denoted, version_denoted, word_at, words_of, Left, Stops, Fraction, HasSizeBelow, fraction_text, is_slash, HasNoSlash, whole_no_slash}
+use Rattle.report_text.proofs.Vocabulary.{◌≡◌, ◌≢◌, ◌≤◌, ◌^◌, ℕ, zero, suc, pos, Option, Some, None, List, [], ◌∷◌, ◌++◌, map, length, get_or, codes, if◌then◌else◌, refl, sym, ap, subst, ◌∙◌, append-nil, arith, ℤ, negsuc, ◌≤ℤ◌, Bool, true, false, cond, ne_eqb, slice_split, after_first, list_any, bytes_eq, length-replicate, Decides-int_eq, ints, signed_decimal, int_eq, digits_value, Circuit, Version, First, Second, Tech, Words, period_line, version_line, IsSmallPeriod, ReportFault, NoMemory, Scale, Heading, cycle_forms, forms_after, forms_of, HasHeading, HasShown, IsSmallCount, count_of, heading_forms, shown_line, scale_in, whole, HasFault, HasFirstFault, cycle_denoted, den_denoted, is_line_feed, scale_denoted, version_denoted, word_at, words_of, Left, Stops, Fraction, HasSizeBelow, fraction_text, is_slash, HasNoSlash, whole_no_slash}
 use Rattle.report_text.specs.declared.sections.Shown.{Shown}
 use Rattle.report_text.proofs.RowLemmas.{length_pathed}
 use Rattle.report_text.proofs.WalkLemmas.{after_place, first_place}

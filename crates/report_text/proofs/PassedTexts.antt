@@ -1,11 +1,11 @@
 -- A text without a fault spells a report; so each text has a fault as a report or spells one.
-use Rattle.report_text.proofs.Vocabulary.{map, pos, ◌≡◌, ◌==◌, ℕ, suc, false, Option, Some, None, List, [], ◌∷◌, ◌++◌, length, if◌then◌else◌, refl, sym, ap, ◌∙◌, subst, append-nil, arith, ◌<◌, ◌≤◌, ◌+◌, ◌-◌, ◌*◌, ◌^◌, append_assoc, zero, Bool, true, MatchBool, MatchOption, take, drop, inl, inr, slice_split, range_with_len, position, ne_eqb, none-some, length-take, Circuit, Cycle, Floor, Report, Version, First, Second, Tech, Spells, Words, count_line, few_registers, Extra, BadLine, Missing, Form, Scale, Heading, Parts, PeriodLine, ShowLine, cycle_forms, forms_after, lead_forms, fields_of, forms_of, HasHeading, HasShown, IsSmallCount, count_of, heading_forms, HasParts, scale_in, whole, is_line_feed, words_of, HasFault, cycle_denoted, scale_denoted, version_denoted, HasFirstFault, fault_of, DenotesPeriod, DenotesShow, IsFlawless, DenotesConstraint, DenotesLead, DenotesPath, report_denoted, Left, DenotesVersion, ReadsLine, DenotesTimed, TakesLine, DenotesLine, Keyword, Pathed, PathLine, HasBody, HasVersionLeads, keyword_text, Counted, HasPathed, HasRows, IsSmallScale, SaysMerge, SaysNode, SaysSource, SaysTotal, Flaw, LineHasFlaw, ReportFault, HasFaultOrReport}
+use Rattle.report_text.proofs.Vocabulary.{Constraint, map, pos, ◌≡◌, ◌==◌, ℕ, suc, false, Option, Some, None, List, [], ◌∷◌, ◌++◌, length, if◌then◌else◌, refl, sym, ap, ◌∙◌, subst, append-nil, arith, ◌<◌, ◌≤◌, ◌+◌, ◌-◌, ◌*◌, ◌^◌, append_assoc, zero, Bool, true, take, drop, inl, inr, range_with_len, position, ne_eqb, none-some, length-take, Circuit, Cycle, Floor, Report, Version, First, Second, Tech, Spells, Words, count_line, few_registers, Extra, BadLine, Missing, Form, Scale, Heading, Parts, cycle_forms, forms_after, lead_forms, fields_of, forms_of, HasHeading, HasShown, IsSmallCount, count_of, heading_forms, HasParts, scale_in, whole, is_line_feed, words_of, HasFault, cycle_denoted, scale_denoted, version_denoted, HasFirstFault, fault_of, IsFlawless, DenotesConstraint, DenotesLead, DenotesPath, report_denoted, Left, ReadsLine, DenotesTimed, TakesLine, DenotesLine, Keyword, HasBody, count_in, keyword_text, Counted, HasPathed, HasRows, IsSmallScale, SaysMerge, SaysNode, SaysSource, SaysTotal, Flaw, LineHasFlaw, ReportFault, HasFaultOrReport}
 use Rattle.cts_model.specs.declared.report.Version.TheVariants as version
 use Rattle.report_text.specs.declared.tree_values.TotalLine.{TotalLine}
 use Rattle.report_text.specs.declared.form.Form.TheVariants as form
 use Rattle.report_text.specs.declared.field.Keyword.TheVariants as word
 use Rattle.report_text.proofs.SpelledFields.{scale_small}
-use Rattle.report_text.proofs.BodyLemmas.{cycle_shown, heading_read, pathed_shown, leads_given, merge_forms, node_forms, register_forms, sections_apart}
+use Rattle.report_text.proofs.BodyLemmas.{cycle_shown, heading_read, pathed_shown, merge_forms, node_forms, register_forms, sections_apart}
 use Rattle.report_text.proofs.PartLemmas.{forms_denoted}
 use Rattle.report_text.proofs.AssemblyLemmas.{parts_spelled}
 use Rattle.report_text.proofs.TimingLines.{period_found, show_found, version_found, constraint_found, count_found, lead_found, path_found, timed_found}
@@ -147,10 +147,10 @@ module _ (circuit : Circuit) (scale : Scale) where
   pathed_passed count more old sound = steps_passed circuit scale more
       (λ place. HasPathed circuit scale place old) count (λ place. form.Constraint ∷ form.Path ∷ [])
       (λ place rest. cycle_forms version.Second rest) (λ place rest. refl) (λ place. refl) next
-      count 0 (omega arith) old (record { cycle = []; paths = [] })
+      count 0 (omega arith) old ([], [])
       (search (arith, read_none circuit scale old)) sound
     where
-      next : (place : ℕ) (suffix : List Form) (between : Left) (value : Pathed)
+      next : (place : ℕ) (suffix : List Form) (between : Left) (value : List Constraint × List (List ℕ))
           → place < count → HasPathed circuit scale place old between value
           → IsSound circuit scale (form.Constraint ∷ form.Path ∷ suffix) between
           → Passed circuit scale suffix (HasPathed circuit scale (place + 1) old)
@@ -159,16 +159,11 @@ module _ (circuit : Circuit) (scale : Scale) where
           (DenotesConstraint circuit) between
           (λ words some. constraint_found circuit scale words) sound in
           let way = denoted_passed circuit scale form.Path suffix
-          (λ words (path : PathLine). DenotesPath circuit words path.signals) line.new
-          (λ words some flawless.
-          let (path, denoted) = path_found circuit scale words flawless in
-          (record { signals = path }, denoted)) line.rest in
+          (DenotesPath circuit) line.new
+          (λ words some flawless. path_found circuit scale words flawless) line.rest in
           record {
             new = way.new;
-            value = record {
-              cycle = value.cycle ++ line.value ∷ [];
-              paths = value.paths ++ way.value.signals ∷ [];
-            };
+            value = (value.0 ++ line.value ∷ [], value.1 ++ way.value ∷ []);
             has = pathed_next line.new value _ line.value way.value has line.has way.has refl refl;
             rest = way.rest;
           }
@@ -200,20 +195,12 @@ module _ (circuit : Circuit) (scale : Scale) where
         rest = rows.rest;
       }
 
-  version_leads_passed : (version : Version) (count : ℕ) (more : List Form) (old : Left)
+  leads_passed : (version : Version) (count : ℕ) (more : List Form) (old : Left)
       → IsSound circuit scale (lead_forms version count ++ more) old
-      → Passed circuit scale more (HasVersionLeads circuit scale version count old)
-  version_leads_passed version.First count more old sound = search (arith, read_none)
-  version_leads_passed version.Second count more old sound =
-      let leads = rows_passed _ _ 0 _ more old (λ number words within some. lead_found circuit scale
-      words) (subst (λ forms. IsSound circuit scale (forms ++ more) old) (sym (one_form form.Lead 0
-      count)) sound) in
-      record {
-        new = leads.new;
-        value = leads.value;
-        has = leads_given _ leads.has;
-        rest = leads.rest;
-      }
+      → Passed circuit scale more (HasRows circuit scale (λ number. form.Lead)
+      (λ number. DenotesLead circuit) 0 (count_in version count) old)
+  leads_passed version count more old sound = rows_passed _ _ 0 _ more old
+      (λ number words within some. lead_found circuit scale words) sound
 
   pub body_passed : (version : Version) (count : ℕ) (more : List Form) (old : Left)
       → IsSmallScale scale → count ≤ 4097
@@ -229,7 +216,7 @@ module _ (circuit : Circuit) (scale : Scale) where
       (lead_forms version count ++ (merge_forms count ++ (form.Source ∷ node_forms count ++ last)))
       (omega (arith, few)) (λ number words within some. timed_found circuit scale number words
       small) old apart in
-      let leads = version_leads_passed version count
+      let leads = leads_passed version count
       (merge_forms count ++ (form.Source ∷ node_forms count ++ last)) timings.new timings.rest in
       let merged = counted_passed word.Merges form.Merge (SaysMerge circuit scale.grid) count
       (count - 1) (form.Source ∷ node_forms count ++ last) (omega (arith, few))
@@ -280,8 +267,7 @@ heading_passed circuit scale more old sound =
     let version = denoted_passed _ _ _ (form.Period ∷ form.Show ∷ more)
     _ _ (λ words some. version_found circuit scale words) sound in
     let period = denoted_passed _ _ _ (form.Show ∷ more) _ _ (λ words some flawless.
-    let (period, denoted) = period_found circuit scale _ flawless in
-    (record { period = period }, denoted)) version.rest in
+    period_found circuit scale _ flawless) version.rest in
     let show = denoted_passed _ _ _ _ _ _ (λ words some flawless.
     let (count, denoted) = show_found circuit scale _ flawless in
     (record { count = count }, denoted)) period.rest in
@@ -289,7 +275,7 @@ heading_passed circuit scale more old sound =
       new = show.new;
       value = record {
         version = version.value;
-        period = period.value.period;
+        period = period.value;
         count = show.value.count;
       };
       has = heading_read _ _ _ _ _ _ _ _ _ version.has period.has show.has;
@@ -325,7 +311,7 @@ shown_passed circuit scale Second (Some count) more old small sound =
     let pathed = pathed_passed circuit scale count more old sound in
     record {
       new = pathed.new;
-      value = record { shown = Cycle pathed.value.cycle; paths = pathed.value.paths };
+      value = record { shown = Cycle pathed.value.0; paths = pathed.value.1 };
       has = pathed_shown pathed.value small pathed.has;
       rest = pathed.rest;
     }

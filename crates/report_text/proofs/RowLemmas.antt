@@ -1,5 +1,5 @@
 -- Lines of one form, one after the other, and the rows that they tell.
-use Rattle.report_text.proofs.Vocabulary.{ℕ, zero, suc, ◌≡◌, ◌<◌, ◌≤◌, ◌+◌, ◌*◌, All, List, [], ◌∷◌, ◌++◌, map, length, get_or, replicate, refl, sym, ap, ap₂, subst, ◌∙◌, arith, range_with_len, length-append, All-cons, All-nil, All-push, length-map-range_with_len, map-range_with_len_more, Circuit, Constraint, Words, count_line, line_for, HasSmallWeight, IsBetweenRegisters, path_line, pathed_lines, ReportFault, Keyword, Form, Scale, Pathed, PathLine, cycle_forms, keyword_text, Counted, HasPathed, HasRows, SayEach, lines_of, DenotesConstraint, DenotesPath, Left, Reads, Stops, StopsLine, DenotesLine}
+use Rattle.report_text.proofs.Vocabulary.{ℕ, zero, suc, ◌≡◌, ◌<◌, ◌≤◌, ◌+◌, ◌*◌, All, List, [], ◌∷◌, ◌++◌, map, length, get_or, replicate, refl, sym, ap, ap₂, subst, ◌∙◌, arith, range_with_len, length-append, All-cons, All-nil, All-push, length-map-range_with_len, map-range_with_len_more, Circuit, Constraint, Words, count_line, line_for, HasSmallWeight, IsBetweenRegisters, path_line, pathed_lines, ReportFault, Keyword, Form, Scale, cycle_forms, keyword_text, Counted, HasPathed, HasRows, SayEach, lines_of, DenotesConstraint, DenotesPath, Left, Reads, Stops, StopsLine, DenotesLine}
 use Rattle.cts_model.specs.declared.report.Version.TheVariants as version
 use Rattle.report_text.specs.declared.form.Form.TheVariants as form
 use Rattle.report_text.proofs.WalkLemmas.{next_read, next_stops, read_more, read_none, stop_line}
@@ -154,21 +154,21 @@ pathed_more circuit cycle paths constraint path as_many = absurd (omega arith)
 
 -- one more constraint and its path
 pub pathed_next : {circuit : Circuit} {scale : Scale} {place : ℕ} {old between new : Left}
-    (middle : Left) (pathed pathed' : Pathed) (constraint : Constraint) (path : PathLine)
+    (middle : Left) (pathed pathed' : List Constraint × List (List ℕ)) (constraint : Constraint) (path : List ℕ)
     → HasPathed circuit scale place old between pathed → DenotesLine circuit scale form.Constraint
     (DenotesConstraint circuit) between middle constraint
-    → DenotesLine circuit scale form.Path (λ words line. DenotesPath circuit words line.signals)
-    middle new path → pathed'.cycle ≡ pathed.cycle ++ constraint ∷ []
-    → pathed'.paths ≡ pathed.paths ++ path.signals ∷ []
+    → DenotesLine circuit scale form.Path (DenotesPath circuit)
+    middle new path → pathed'.0 ≡ pathed.0 ++ constraint ∷ []
+    → pathed'.1 ≡ pathed.1 ++ path ∷ []
     → HasPathed circuit scale (place + 1) old new pathed'
 pathed_next {circuit} {scale} {place} {old} {between} {new} middle pathed pathed' constraint path
     has next way cycle paths = record {
       lines = next_read (cycle_forms version.Second) _ pathed_step place _ (next.words ∷ way.words
           ∷ []) _ _ _ _ has.lines (read_more (next.line.read scale next.line.flawless) _
           _ _ (way.line.read scale way.line.flawless)) (ap₂ (pathed_lines circuit)
-          cycle paths ∙ pathed_more circuit _ _ constraint path.signals
-          (has.as_many ∙ sym has.paths) ∙ ap₂ (λ first second. pathed_lines circuit pathed.cycle
-          pathed.paths ++ first ∷ second ∷ []) (sym next.denoted.line) (sym way.denoted.line));
+          cycle paths ∙ pathed_more circuit _ _ constraint path
+          (has.as_many ∙ sym has.paths) ∙ ap₂ (λ first second. pathed_lines circuit pathed.0
+          pathed.1 ++ first ∷ second ∷ []) (sym next.denoted.line) (sym way.denoted.line));
       as_many = longer _ _ _ cycle _ has.as_many;
       paths = longer _ _ _ paths _ has.paths;
       registers = all_with _ _ _ cycle

@@ -61,7 +61,7 @@ pub use Rattle.cts_model.specs.tree.Problems.{grid_of, scheduled_length}
 pub use Rattle.cts_model.specs.tree.Topologies.{root_of, source_of}
 pub use Rattle.name_set.proofs.OneName.{one_register, one_signal, few_registers}
 pub use Rattle.name_set.specs.RegisterNames.{register_names}
-pub use Rattle.report_text.specs.Bodies.{HasBody, HasVersionLeads}
+pub use Rattle.report_text.specs.Bodies.{HasBody}
 pub use Rattle.report_text.specs.DenotedReports.{timed_line, arrivals_in, begin_of, denoted_lines, lengths_in, merges_in, places_in, reaches_in, report_denoted, shows_in, sink_reach, sink_reaches, wires_in, lines_after}
 pub use Rattle.report_text.specs.Fields.{AreSteps, AreFewSteps, IsFormed, IsFractionForm, IsWholeSteps, WordHasFlaw, IsFirstFlaw, LineHasFlaw, NamesRegister, NamesSignal, EachWord, IsFit, IsKnown, IsWithin}
 pub use Rattle.report_text.specs.FlawOrder.{sooner_flaw, rank}
@@ -77,9 +77,9 @@ pub use Rattle.report_text.specs.Pieces.{suffix}
 pub use Rattle.report_text.specs.ReportFaults.{HasFirstFault, is_line_feed, words_of, HasFault, cycle_denoted, den_denoted, scale_denoted, version_denoted, word_at, fault_of, is_space}
 pub use Rattle.report_text.specs.Rows.{lines_of, HasPathed, HasRows, Counted, SayEach}
 pub use Rattle.report_text.specs.Scans.{flaw_in, EndsIn, Keeps, LineLeft, ReadsForm, Taken, Takes, TakesNext}
-pub use Rattle.report_text.specs.TimingValues.{DenotesConstraint, DenotesLead, IsFlawless, DenotesPeriod, DenotesShow, DenotesPath}
+pub use Rattle.report_text.specs.TimingValues.{DenotesTimed, DenotesConstraint, DenotesLead, IsFlawless, DenotesPeriod, DenotesShow, DenotesPath}
 pub use Rattle.report_text.specs.Values.{SaysMerge, SaysNode, SaysSource, merged_line, placed_line, sourced_line, IsSmallScale, SaysTotal, coordinates}
-pub use Rattle.report_text.specs.Walks.{DenotesTimed, Left, Reads, ReadsLine, Stops, DenotesLine, DenotesVersion, TakesLine, StopsLine}
+pub use Rattle.report_text.specs.Walks.{Left, Reads, ReadsLine, Stops, DenotesLine, DenotesVersion, TakesLine, StopsLine}
 pub use Rattle.report_text.specs.declared.fault.ReportFault.{ReportFault}
 pub use Rattle.report_text.specs.declared.fault.ReportFault.TheVariants.{NoMemory, Extra, BadLine, Missing}
 pub use Rattle.report_text.specs.declared.field.Flaw.{Flaw}
@@ -89,9 +89,6 @@ pub use Rattle.report_text.specs.declared.form.Form.{Form}
 pub use Rattle.report_text.specs.declared.form.Scale.{Scale}
 pub use Rattle.report_text.specs.declared.sections.Heading.{Heading}
 pub use Rattle.report_text.specs.declared.sections.Parts.{Parts}
-pub use Rattle.report_text.specs.declared.sections.Pathed.{Pathed}
-pub use Rattle.report_text.specs.declared.timing_values.PathLine.{PathLine}
-pub use Rattle.report_text.specs.declared.timing_values.PeriodLine.{PeriodLine}
 pub use Rattle.report_text.specs.declared.timing_values.ShowLine.{ShowLine}
 pub use Rattle.report_text.specs.declared.timing_values.Timed.{Timed}
 pub use Rattle.report_text.specs.declared.tree_values.MergeLine.{MergeLine}

@@ -1,6 +1,6 @@
 -- A text spells one report at the most and has one fault at the most, and none where it spells one;
 -- so what is read of it is that report, and a text with a fault is refused for that fault.
-use Rattle.report_text.proofs.Vocabulary.{◌≡◌, ◌<◌, ◌≤◌, ◌+◌, ◌^◌, ℕ, suc, pos, Bool, true, false, cond, List, [], ◌∷◌, ◌++◌, All, map, take, drop, get_or, length, codes, refl, sym, ap, ap₂, ◌∙◌, subst, arith, ◌-◌, ◌*◌, zero, None, ◌≢◌, ◌⊎◌, inl, inr, Option, Some, Result, Ok, Err, IfErr, IfOk, flat_map, range_with_len, length-drop, same_lists, take-append-drop, same_Some, quotient_text, Circuit, Constraint, PeriodShow, Cycle, Floor, Point, Version, First, Second, Lead, Zero, Tight, Tech, Show, Pair, Sink, Root, Wire, IsPointBelow, HasSmallWeight, IsBetweenRegisters, IsSmallWire, ShowsAmong, HasSmallWeights, count_in, Spells, lead_line, path_line, pathed_lines, period_show_lines, show_words, signal_name, version_line, report_lines, Words, count_line, line_for, line_of, period_line, text_of, Report, one_register, one_signal, few_registers, Scale, Parts, Timed, MergeLine, NodeLine, SourceLine, denoted_lines, timed_line, lines_after, report_denoted, constraint_fields, length_field, slack_field, cycle_forms, forms_after, forms_of, lead_forms, scale_in, lines_of, DenotesConstraint, DenotesLead, IsFlawless, IsSmallScale, SaysMerge, SaysNode, SaysSource, coordinates, merged_line, placed_line, sourced_line, DenotesTimed, Left, Form, IsSmallCount, count_of, shown_line, HasFault, HasFirstFault, cycle_denoted, scale_denoted, version_denoted, ReportFault, NoMemory, OneReport}
+use Rattle.report_text.proofs.Vocabulary.{◌≡◌, ◌<◌, ◌≤◌, ◌+◌, ◌^◌, ℕ, suc, pos, Bool, true, false, cond, List, [], ◌∷◌, ◌++◌, All, map, take, drop, get_or, length, codes, refl, sym, ap, ap₂, ◌∙◌, subst, arith, ◌-◌, ◌*◌, zero, None, ◌≢◌, ◌⊎◌, inl, inr, Option, Some, Result, Ok, Err, IfErr, IfOk, flat_map, range_with_len, length-drop, same_lists, take-append-drop, same_Some, quotient_text, Circuit, Constraint, PeriodShow, Cycle, Floor, Point, Version, First, Second, Lead, Zero, Tight, Tech, Show, Pair, Sink, Root, Wire, IsPointBelow, HasSmallWeight, IsBetweenRegisters, IsSmallWire, ShowsAmong, HasSmallWeights, count_in, Spells, lead_line, path_line, pathed_lines, period_show_lines, show_words, version_line, Words, count_line, line_for, line_of, period_line, text_of, Report, one_register, one_signal, few_registers, Scale, Parts, Timed, MergeLine, NodeLine, SourceLine, denoted_lines, timed_line, lines_after, report_denoted, constraint_fields, length_field, slack_field, cycle_forms, forms_after, forms_of, lead_forms, scale_in, lines_of, DenotesConstraint, DenotesLead, IsFlawless, IsSmallScale, SaysMerge, SaysNode, SaysSource, coordinates, merged_line, placed_line, sourced_line, DenotesTimed, Left, Form, IsSmallCount, count_of, shown_line, HasFault, HasFirstFault, cycle_denoted, version_denoted, ReportFault, NoMemory, OneReport}
 use Rattle.report_text.specs.LineFields as field
 use Rattle.report_text.specs.declared.field.Keyword.TheVariants as word
 use Rattle.report_text.specs.declared.form.Form.TheVariants as form
@@ -424,12 +424,10 @@ module _ (circuit : Circuit) (scale : Scale) where
         → All (IsTold (λ number. DenotesLead circuit) (λ number. lead_line circuit)) leads
         → AreFlawless (lead_forms version count ++ more)
         (lines_of (λ number. lead_line circuit) 0 leads ++ rest)
-    leads_flawless First count [] many told = after
-    leads_flawless First count (lead ∷ leads) many told = absurd (omega (arith, many))
-    leads_flawless Second count leads many told =
-        rw (← one_form form.Lead 0 count) (rows_flawless (λ number. form.Lead)
-        (λ number. DenotesLead circuit) (λ number. lead_line circuit) 0 count leads many told
-        (λ number lead within says. lead_plain circuit scale lead says.registers says.small))
+    leads_flawless version count leads many told = rows_flawless (λ number. form.Lead)
+        (λ number. DenotesLead circuit) (λ number. lead_line circuit) 0 (count_in version count)
+        leads many told (λ number lead within says. lead_plain circuit scale lead says.registers
+        says.small)
 
     -- constraints and their paths
     pathed_flawless : (cycle : List Constraint) (paths : List (List ℕ))

@@ -1,5 +1,5 @@
 -- The words of a report have no space and no line feed: numbers, and the names of signals.
-use Rattle.report_text.proofs.Vocabulary.{◌≡◌, ◌<◌, ◌+◌, ◌/◌, ◌%◌, ◌==◌, ◌&&◌, ◌||◌, not, ℕ, suc, zero, ℤ, pos, negsuc, Bool, true, false, cond, List, [], ◌∷◌, ◌++◌, Option, Some, None, slice_get, nat_lt, nat_le, refl, sym, subst, true≢false, arith, digits, digits_onto, digit_glyph, signed_decimal, list_all, int_eq, bytes_eq, leb-true, slice_get_within, get_or_from_slice_get, bytes_eq-Decides, Fraction, fraction_text, quotient_text, Signal, Circuit, host_name, is_named, is_host, is_mark, is_name_byte, is_name, is_short, register_name, slack_text, signal_name}
+use Rattle.report_text.proofs.Vocabulary.{◌≡◌, ◌<◌, ◌+◌, ◌/◌, ◌%◌, ◌==◌, ◌&&◌, ◌||◌, ℕ, suc, zero, ℤ, pos, negsuc, Bool, true, false, cond, List, [], ◌∷◌, ◌++◌, Option, Some, None, slice_get, nat_lt, nat_le, refl, sym, subst, true≢false, arith, digits, digits_onto, digit_glyph, signed_decimal, list_all, int_eq, bytes_eq, leb-true, slice_get_within, get_or_from_slice_get, bytes_eq-Decides, Fraction, fraction_text, quotient_text, Signal, Circuit, host_name, is_named, is_host, is_name_byte, is_name, is_short, register_name, slack_text, signal_name}
 use Rattle.std.specs.Option.{option_and_then, option_map_or}
 use Rattle.report_text.proofs.OneLine.{IsWord}
 

@@ -1,20 +1,5 @@
 -- The report that the sections of a text tell.
-use Rattle.std.specs.Prelude.{◌-◌, ◌*◌, ℕ, ℤ, neg_ℤ, List, [], ◌∷◌, ◌++◌, length, map, slice_index_or, codes}
-use Rattle.cts_base.specs.Fractions.{quotient_text}
-use Rattle.cts_model.specs.declared.circuit.Circuit.{Circuit}
-use Rattle.cts_model.specs.declared.place.Point.{Point}
-use Rattle.cts_model.specs.declared.schedule.Slack.{Slack}
-use Rattle.cts_model.specs.declared.tree.Merge.{Merge}
-use Rattle.cts_model.specs.declared.tree.Show.{Show}
-use Rattle.cts_model.specs.declared.report.Report.{Report}
-use Rattle.cts_model.specs.declared.tech.Tech.{Tech}
-use Rattle.cts_model.specs.declared.tree.Wire.{Wire}
-use Rattle.cts_model.specs.text.PrintedLines.{Words, count_line, period_line, register_line}
-use Rattle.cts_model.specs.tree.Problems.{grid_of, scheduled_length}
-use Rattle.cts_model.specs.report.ReportLines.{lead_line, no_wire, origin, period_show_lines, version_line}
-use Rattle.report_text.specs.declared.sections.Parts.{Parts}
-use Rattle.report_text.specs.declared.form.Scale.{Scale}
-use Rattle.report_text.specs.declared.timing_values.Timed.{Timed}
+use Rattle.report_text.specs.Common.{◌-◌, ◌*◌, ℕ, ℤ, neg_ℤ, List, [], ◌∷◌, ◌++◌, length, map, slice_index_or, codes, quotient_text, Circuit, Point, Slack, Merge, Show, Report, Tech, Wire, Words, count_line, period_line, register_line, grid_of, scheduled_length, lead_line, no_wire, origin, period_show_lines, version_line, Parts, Scale, Timed}
 use Rattle.report_text.specs.Rows.{lines_of}
 use Rattle.report_text.specs.Values.{merged_line, placed_line, sourced_line}
 

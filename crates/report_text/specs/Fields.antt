@@ -1,15 +1,8 @@
 -- What a word of a report's line has to be, and what is wrong with it first. The forms are this
 -- project's choice.
-use Rattle.std.specs.Prelude.{◌≡◌, ◌⊎◌, ◌<◌, ◌≤◌, ◌^◌, ℕ, ℤ, pos, ◌≤ℤ◌, ◌<ℤ◌, ◌+ℤ◌, ◌*ℤ◌, Option, Some, None, List, [], ◌∷◌, length, codes}
-use Rattle.cts_base.specs.Fractions.{HasSizeBelow, IsLowest}
-use Rattle.cts_base.specs.NumberTexts.{SpellsWhole, SpellsQuotient, HaveSmallSizes}
-use Rattle.cts_model.specs.declared.circuit.Circuit.{Circuit}
-use Rattle.cts_model.specs.netlist.Paths.{register_name}
-use Rattle.cts_model.specs.report.ReportLines.{signal_name}
-use Rattle.report_text.specs.LineFields.{Field}
-use Rattle.report_text.specs.LineFields.{Word, Version, Kind, Exactly, Number, Counted, Weight, Period, Steps, Slack, Register, Named, From, Signal}
-use Rattle.report_text.specs.declared.field.Flaw.{Flaw}
+use Rattle.report_text.specs.Common.{◌≡◌, ◌⊎◌, ◌<◌, ◌≤◌, ◌^◌, ℕ, ℤ, pos, ◌≤ℤ◌, ◌<ℤ◌, ◌+ℤ◌, ◌*ℤ◌, Option, Some, None, List, [], ◌∷◌, length, codes, HasSizeBelow, IsLowest, SpellsWhole, SpellsQuotient, HaveSmallSizes, Circuit, register_name, signal_name, Flaw}
 use Rattle.report_text.specs.declared.field.Flaw.TheVariants as flaws
+use Rattle.report_text.specs.LineFields.{Field, Word, Version, Kind, Exactly, Number, Counted, Weight, Period, Steps, Slack, Register, Named, From, Signal}
 use Rattle.report_text.specs.Keywords.{keyword_text}
 
 -- the text has the form of a fraction; one with a number of 10^37 or more in size is judged without

@@ -1,20 +1,11 @@
 -- Which fields a line of each form has, and which forms a report's lines have in order. Where a
 -- form has several kinds of lines, a fixed word denotes which. The forms are this project's choice.
-use Rattle.std.specs.Prelude.{ℕ, zero, suc, ◌+◌, ◌-◌, ◌*◌, ◌/◌, ◌^◌, ◌==◌, ◌&&◌, nat_le, Bool, pos, List, [], ◌∷◌, ◌++◌, length, map, replicate, get_or, if◌then◌else◌}
-use Rattle.std.specs.List.{position_or_len, range_with_len}
-use Rattle.std.specs.Str.{bytes_eq}
-use Rattle.cts_model.specs.declared.circuit.Circuit.{Circuit}
-use Rattle.cts_model.specs.declared.report.Version.{Version}
-use Rattle.cts_model.specs.declared.report.Version.TheVariants as version
-use Rattle.cts_model.specs.netlist.Paths.{register_name}
-use Rattle.report_text.specs.LineFields.{Field}
-use Rattle.report_text.specs.LineFields as field
-use Rattle.report_text.specs.declared.field.Keyword.{Keyword}
+use Rattle.report_text.specs.Common.{count_in, ℕ, zero, suc, ◌+◌, ◌-◌, ◌*◌, ◌/◌, ◌^◌, ◌==◌, ◌&&◌, nat_le, Bool, pos, List, [], ◌∷◌, ◌++◌, length, map, replicate, get_or, if◌then◌else◌, position_or_len, range_with_len, bytes_eq, Circuit, Version, register_name, Keyword, Form, Scale, First, Second}
 use Rattle.report_text.specs.declared.field.Keyword.TheVariants as word
-use Rattle.report_text.specs.declared.form.Form.{Form}
 use Rattle.report_text.specs.declared.form.Form.TheVariants as form
-use Rattle.report_text.specs.declared.form.Scale.{Scale}
+use Rattle.report_text.specs.LineFields.{Field}
 use Rattle.report_text.specs.Keywords.{keyword_text}
+use Rattle.report_text.specs.LineFields as field
 
 -- the word at a place is that fixed one
 abbrev pub is_word : List (List ℕ) → ℕ → Keyword → Bool
@@ -105,14 +96,14 @@ fields_of circuit scale form.Total words = total_fields scale
 
 -- each constraint of a cycle, in the second version with its path
 abbrev pub cycle_forms : Version → (count : ℕ) → List Form
-cycle_forms version.First count = replicate count form.Constraint
-cycle_forms version.Second zero = []
-cycle_forms version.Second (suc count) =
-    form.Constraint ∷ form.Path ∷ cycle_forms version.Second count
+cycle_forms First count = replicate count form.Constraint
+cycle_forms Second zero = []
+cycle_forms Second (suc count) =
+    form.Constraint ∷ form.Path ∷ cycle_forms Second count
 
+-- each lead, of which the first version has none
 abbrev pub lead_forms : Version → (count : ℕ) → List Form
-lead_forms version.First count = []
-lead_forms version.Second count = replicate count form.Lead
+lead_forms version count = map (λ number. form.Lead) (range_with_len 0 (count_in version count))
 
 -- the lines after what shows the period
 abbrev pub forms_after : Version → (registers : ℕ) → List Form

@@ -1,16 +1,6 @@
 -- What the first lines of a report tell: its version, its period and what shows it.
-use Rattle.std.specs.Prelude.{◌≡◌, ◌<◌, ◌≤◌, ℕ, Option, Some, None, List, [], ◌∷◌, All, codes, drop, length}
-use Rattle.cts_model.specs.declared.circuit.Circuit.{Circuit}
-use Rattle.cts_model.specs.declared.report.Version.{Version}
-use Rattle.cts_model.specs.text.PrintedLines.{Words, count_line, floor_line, period_line}
-use Rattle.cts_model.specs.report.ReportBounds.{HasSmallWeights, ShowsPeriodAmong, count_in, cycle_length}
-use Rattle.cts_model.specs.report.ReportLines.{period_show_lines, version_line}
-use Rattle.cts_model.specs.timing.Schedules.{IsSmallPeriod}
-use Rattle.report_text.specs.declared.form.Form.{Form}
+use Rattle.report_text.specs.Common.{◌≡◌, ◌<◌, ◌≤◌, ℕ, Option, Some, None, List, [], ◌∷◌, All, codes, drop, length, Circuit, Version, Words, count_line, floor_line, period_line, HasSmallWeights, ShowsPeriodAmong, count_in, cycle_length, period_show_lines, version_line, IsSmallPeriod, Form, Scale, Heading, Shown}
 use Rattle.report_text.specs.declared.form.Form.TheVariants as form
-use Rattle.report_text.specs.declared.form.Scale.{Scale}
-use Rattle.report_text.specs.declared.sections.Heading.{Heading}
-use Rattle.report_text.specs.declared.sections.Shown.{Shown}
 use Rattle.report_text.specs.Forms.{cycle_forms}
 use Rattle.report_text.specs.Walks.{Left, Reads}
 

@@ -1,10 +1,5 @@
 -- What holds of every text of a report.
-use Rattle.std.specs.Prelude.{◌≡◌, ◌⊎◌, ℕ, List, Option, Some, None}
-use Rattle.cts_model.specs.declared.circuit.Circuit.{Circuit}
-use Rattle.cts_model.specs.declared.report.Report.{Report}
-use Rattle.cts_model.specs.declared.tech.Tech.{Tech}
-use Rattle.cts_model.specs.report.ReportBounds.{Spells}
-use Rattle.report_text.specs.declared.fault.ReportFault.{ReportFault}
+use Rattle.report_text.specs.Common.{◌≡◌, ◌⊎◌, ℕ, List, Option, Some, None, Circuit, Report, Tech, Spells, ReportFault}
 use Rattle.report_text.specs.ReportFaults.{HasFault}
 
 -- a text spells at most one report, over one circuit and for one table

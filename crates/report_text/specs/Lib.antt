@@ -1,3 +1,4 @@
+pub mod Common
 pub mod Laws
 pub mod Pieces
 pub mod Keywords
@@ -18,3 +19,4 @@ pub mod Headings
 pub mod Bodies
 pub mod Parts
 pub mod DenotedReports
+pub mod Vocabulary

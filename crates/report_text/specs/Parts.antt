@@ -1,11 +1,5 @@
 -- The parts of a whole report, one after the other.
-use Rattle.std.specs.Prelude.{◌≡◌, ℕ, List, [], length}
-use Rattle.cts_base.specs.declared.fraction.Fraction.{Fraction}
-use Rattle.cts_model.specs.declared.circuit.Circuit.{Circuit}
-use Rattle.cts_model.specs.declared.tech.Tech.{Tech}
-use Rattle.cts_model.specs.tree.Problems.{grid_of}
-use Rattle.report_text.specs.declared.form.Scale.{Scale}
-use Rattle.report_text.specs.declared.sections.Parts.{Parts}
+use Rattle.report_text.specs.Common.{◌≡◌, ℕ, List, [], length, Fraction, Circuit, Tech, grid_of, Scale, Parts}
 use Rattle.report_text.specs.Bodies.{HasBody}
 use Rattle.report_text.specs.Headings.{HasHeading, HasShown}
 use Rattle.report_text.specs.Walks.{Left}

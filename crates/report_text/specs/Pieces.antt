@@ -1,10 +1,5 @@
 -- The pieces of a line, as they are appended one after the other.
-use Rattle.std.specs.Prelude.{ℕ, pos, ◌≤ℤ◌, ◌<ℤ◌, ◌^◌, List, ◌∷◌, All}
-use Rattle.std.specs.List.{flat_map}
-use Rattle.cts_model.specs.declared.report.Report.{Report}
-use Rattle.cts_model.specs.placement.Points.{IsBelow, IsPointBelow}
-use Rattle.cts_model.specs.text.PrintedLines.{Words}
-use Rattle.cts_model.specs.report.ReportBounds.{IsSmallWire}
+use Rattle.report_text.specs.Common.{ℕ, pos, ◌≤ℤ◌, ◌<ℤ◌, ◌^◌, List, ◌∷◌, All, flat_map, Report, IsBelow, IsPointBelow, Words, IsSmallWire}
 
 -- words that stand after others on a line: each after a space
 abbrev pub suffix : Words → List ℕ

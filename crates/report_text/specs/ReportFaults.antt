@@ -1,22 +1,10 @@
 -- What is wrong with a text that spells no report: its lines are judged in order, each by the form
 -- that is due. The order and the faults are this project's choice.
-use Rattle.std.specs.Prelude.{◌≡◌, ◌+◌, Bool, ◌==◌, ◌^◌, ℕ, ℤ, pos, ◌*ℤ◌, ◌∷◌, [], List, Option, Some, None, length, take, drop, get_or, if◌then◌else◌, codes, MatchBool, MatchOption}
-use Rattle.std.specs.List.{after_first, position, slice_split, list_any}
-use Rattle.std.specs.Str.{bytes_eq}
-use Rattle.std.specs.Str.Parse.{digits_value}
-use Rattle.cts_base.specs.NumberTexts.{is_slash}
-use Rattle.cts_model.specs.declared.circuit.Circuit.{Circuit}
-use Rattle.cts_model.specs.declared.report.Version.{Version}
-use Rattle.cts_model.specs.declared.report.Version.TheVariants as version
-use Rattle.cts_model.specs.declared.tech.Tech.{Tech}
-use Rattle.report_text.specs.declared.fault.ReportFault.{ReportFault}
-use Rattle.report_text.specs.declared.fault.ReportFault.TheVariants.{BadLine, UnknownRegister, Missing, Extra, TooLarge, UnknownSignal}
-use Rattle.report_text.specs.declared.field.Flaw.{Flaw}
-use Rattle.report_text.specs.declared.field.Flaw.TheVariants.{Form, Unknown, Unfit, Large}
+use Rattle.report_text.specs.Common.{◌≡◌, ◌+◌, Bool, ◌==◌, ◌^◌, ℕ, ℤ, pos, ◌*ℤ◌, ◌∷◌, [], List, Option, Some, None, length, take, drop, get_or, if◌then◌else◌, codes, MatchBool, MatchOption, after_first, position, slice_split, list_any, bytes_eq, digits_value, is_slash, Circuit, Version, Tech, ReportFault, BadLine, UnknownRegister, Missing, Extra, TooLarge, UnknownSignal, Flaw, Scale, First, Second}
 use Rattle.report_text.specs.declared.field.Keyword.TheVariants as word
 use Rattle.report_text.specs.declared.form.Form as forms
 use Rattle.report_text.specs.declared.form.Form.TheVariants as form
-use Rattle.report_text.specs.declared.form.Scale.{Scale}
+use Rattle.report_text.specs.declared.field.Flaw.TheVariants.{Form, Unknown, Unfit, Large}
 use Rattle.report_text.specs.Fields.{LineHasFlaw}
 use Rattle.report_text.specs.Forms.{fields_of, forms_of, is_word}
 
@@ -66,7 +54,7 @@ word_at text line place =
 -- constraints the cycle has
 abbrev pub version_denoted : List ℕ → Version
 version_denoted text =
-    if bytes_eq (word_at text 0 1) (codes "1") then version.First else version.Second
+    if bytes_eq (word_at text 0 1) (codes "1") then First else Second
 
 abbrev pub den_denoted : List ℕ → ℤ
 den_denoted text = if list_any is_slash (word_at text 1 1)

@@ -1,16 +1,6 @@
 -- Lines of one form, one after the other, and the rows that they tell.
-use Rattle.std.specs.Prelude.{◌≡◌, ◌<◌, ◌≤◌, ◌+◌, ℕ, List, [], ◌∷◌, All, length, map}
-use Rattle.std.specs.List.{range_with_len}
-use Rattle.cts_model.specs.declared.circuit.Circuit.{Circuit}
-use Rattle.cts_model.specs.declared.report.Version.TheVariants as version
-use Rattle.cts_model.specs.text.PrintedLines.{Words, count_line}
-use Rattle.cts_model.specs.report.ReportBounds.{HasSmallWeight, IsBetweenRegisters}
-use Rattle.cts_model.specs.report.ReportLines.{pathed_lines}
-use Rattle.report_text.specs.declared.field.Keyword.{Keyword}
-use Rattle.report_text.specs.declared.form.Form.{Form}
+use Rattle.report_text.specs.Common.{◌≡◌, ◌<◌, ◌≤◌, ◌+◌, ℕ, List, [], ◌∷◌, All, length, map, range_with_len, Circuit, Words, count_line, HasSmallWeight, IsBetweenRegisters, pathed_lines, Keyword, Form, Scale, Constraint, Second}
 use Rattle.report_text.specs.declared.form.Form.TheVariants as form
-use Rattle.report_text.specs.declared.form.Scale.{Scale}
-use Rattle.report_text.specs.declared.sections.Pathed.{Pathed}
 use Rattle.report_text.specs.Forms.{cycle_forms}
 use Rattle.report_text.specs.Keywords.{keyword_text}
 use Rattle.report_text.specs.Walks.{Left, Reads, ReadsLine}
@@ -49,12 +39,12 @@ pub record Counted {X : Type 0} (circuit : Circuit) (scale : Scale) (keyword : K
 
 -- the lines of a cycle with paths
 pub record HasPathed (circuit : Circuit) (scale : Scale) (count : ℕ) (old new : Left)
-    (pathed : Pathed) : Type 0 where
-  pub lines : Reads circuit scale (cycle_forms version.Second count)
-      (pathed_lines circuit pathed.cycle pathed.paths) old new
-  pub as_many : length pathed.cycle ≡ count
-  pub paths : length pathed.paths ≡ count
-  pub registers : All (IsBetweenRegisters (length circuit.registers)) pathed.cycle
-  pub weights : All HasSmallWeight pathed.cycle
-  pub signals : All (All (λ number. number < length circuit.signals)) pathed.paths
-  pub few : All (λ path. length path ≤ 65536) pathed.paths
+    (pathed : List Constraint × List (List ℕ)) : Type 0 where
+  pub lines : Reads circuit scale (cycle_forms Second count)
+      (pathed_lines circuit pathed.0 pathed.1) old new
+  pub as_many : length pathed.0 ≡ count
+  pub paths : length pathed.1 ≡ count
+  pub registers : All (IsBetweenRegisters (length circuit.registers)) pathed.0
+  pub weights : All HasSmallWeight pathed.0
+  pub signals : All (All (λ number. number < length circuit.signals)) pathed.1
+  pub few : All (λ path. length path ≤ 65536) pathed.1

@@ -1,18 +1,5 @@
 -- What the words of a report's line say.
-use Rattle.std.specs.Prelude.{◌≡◌, ◌^◌, ℕ, ℤ, pos, ◌≤ℤ◌, [], ◌∷◌, ◌++◌, length, take, codes}
-use Rattle.std.specs.List.{flat_map}
-use Rattle.std.specs.Fmt.{signed_decimal}
-use Rattle.cts_base.specs.Fractions.{HasSizeBelow, quotient_text}
-use Rattle.cts_model.specs.declared.circuit.Circuit.{Circuit}
-use Rattle.cts_model.specs.declared.place.Point.{Point}
-use Rattle.cts_model.specs.placement.Points.{IsBelow, IsPointBelow}
-use Rattle.cts_model.specs.text.PrintedLines.{Words}
-use Rattle.cts_model.specs.report.ReportBounds.{IsMergeShow, IsSmallMerge, IsSmallWire, IsSourceShow, ShowsAmong}
-use Rattle.cts_model.specs.report.ReportLines.{show_words}
-use Rattle.report_text.specs.declared.form.Scale.{Scale}
-use Rattle.report_text.specs.declared.tree_values.MergeLine.{MergeLine}
-use Rattle.report_text.specs.declared.tree_values.NodeLine.{NodeLine}
-use Rattle.report_text.specs.declared.tree_values.SourceLine.{SourceLine}
+use Rattle.report_text.specs.Common.{◌≡◌, ◌^◌, ℕ, ℤ, pos, ◌≤ℤ◌, [], ◌∷◌, ◌++◌, length, take, codes, flat_map, signed_decimal, HasSizeBelow, quotient_text, Circuit, Point, IsBelow, IsPointBelow, Words, IsMergeShow, IsSmallMerge, IsSmallWire, IsSourceShow, ShowsAmong, show_words, Scale, MergeLine, NodeLine, SourceLine}
 
 -- there are steps, and few enough for their words
 pub record IsSmallScale (scale : Scale) : Type 0 where

@@ -1,20 +1,9 @@
 -- Reading a text line by line, each by the form that is due.
-use Rattle.std.specs.Prelude.{◌≡◌, ◌≢◌, ◌<◌, ◌+◌, ◌==◌, false, ℕ, List, [], ◌∷◌, ◌++◌, Option, Some, None, length, map, take, drop, position, MatchBool, MatchOption}
-use Rattle.std.specs.List.{slice_split}
-use Rattle.cts_model.specs.declared.circuit.Circuit.{Circuit}
-use Rattle.cts_model.specs.text.PrintedLines.{Words, text_of}
-use Rattle.report_text.specs.declared.fault.ReportFault.{ReportFault}
-use Rattle.report_text.specs.declared.fault.ReportFault.TheVariants.{BadLine, Missing, NoMemory}
-use Rattle.report_text.specs.declared.form.Form.{Form}
-use Rattle.report_text.specs.declared.form.Scale.{Scale}
-use Rattle.report_text.specs.declared.field.Flaw.{Flaw}
+use Rattle.report_text.specs.Common.{◌≡◌, ◌≢◌, ◌<◌, ◌+◌, ◌==◌, false, ℕ, List, [], ◌∷◌, ◌++◌, Option, Some, None, length, map, take, drop, position, MatchBool, MatchOption, slice_split, Circuit, Words, text_of, ReportFault, BadLine, Missing, NoMemory, Form, Scale, Flaw, Version, version_line}
 use Rattle.report_text.specs.Fields.{LineHasFlaw}
 use Rattle.report_text.specs.Forms.{fields_of}
 use Rattle.report_text.specs.ReportFaults.{HasFirstFault, fault_of, is_line_feed, words_of}
-use Rattle.report_text.specs.declared.timing_values.Timed.{Timed}
-use Rattle.cts_model.specs.declared.report.Version.{Version}
-use Rattle.cts_model.specs.report.ReportLines.{version_line}
-use Rattle.report_text.specs.TimingValues.{IsFlawless, DenotesArrival}
+use Rattle.report_text.specs.TimingValues.{IsFlawless}
 
 -- what is left of a text, and the number of its first line
 pub record Left : Type 0 where
@@ -76,10 +65,6 @@ pub record DenotesLine {X : Type 0} (circuit : Circuit) (scale : Scale) (form : 
   pub line : ReadsLine circuit scale form words old new
   pub denoted : Denotes words value
 
--- what the lines of some forms tell
+-- what the first line tells
 abbrev pub DenotesVersion : Words → Version → Type 0
 DenotesVersion words version = words ≡ version_line version
-
-abbrev pub DenotesTimed : Circuit → Scale → (register : ℕ) → Words → Timed → Type 0
-DenotesTimed circuit scale register words timed =
-    DenotesArrival circuit scale.den register words timed.arrival timed.slack

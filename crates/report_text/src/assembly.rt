@@ -1,12 +1,6 @@
 //! Putting a report together from what its lines tell.
 
-ghost use Rattle.std.specs.Prelude.{◌≡◌, ◌^◌, ◌++◌, ◌∷◌, ℕ, List, [], All, IfOk, map};
-ghost use Rattle.cts_model.specs.declared.circuit.Circuit as model;
-ghost use Rattle.cts_model.specs.placement.Points.{IsBelow};
-ghost use Rattle.cts_model.specs.report.ReportBounds.{Spells};
-ghost use Rattle.cts_model.specs.timing.Schedules.{IsSmallPeriod};
-ghost use Rattle.report_text.specs.Parts.{HasParts};
-ghost use Rattle.report_text.specs.DenotedReports.{arrivals_in, begin_of, lengths_in, merges_in, places_in, reaches_in, report_denoted, sink_reaches, slacks_in, wires_in};
+ghost use Rattle.report_text.specs.Vocabulary.{◌≡◌, ◌^◌, ◌++◌, ◌∷◌, ℕ, List, [], All, IfOk, map, IsBelow, Spells, IsSmallPeriod, HasParts, arrivals_in, begin_of, lengths_in, merges_in, places_in, reaches_in, report_denoted, sink_reaches, slacks_in, wires_in, Circuit};
 
 use crate::sections::Parts;
 use crate::timing_values::Timed;
@@ -17,9 +11,9 @@ use std::alloc::Global;
 
 /// The report that the parts of a text make up.
 pub(crate) fn report_of(alloc: Global, tech: &Tech, parts: Parts) -> Result<Report, NoMemory>
-    requires { (circuit : model.Circuit) × (text : List ℕ)
+    requires { (circuit : Circuit) × (text : List ℕ)
         × HasParts circuit tech.now text parts }
-    ensures { (circuit : model.Circuit) (text : List ℕ) → HasParts circuit tech.now text parts
+    ensures { (circuit : Circuit) (text : List ℕ) → HasParts circuit tech.now text parts
         → IfOk result (Spells circuit tech.now text) }
 {
     let report = put_together(alloc, tech, parts)?;

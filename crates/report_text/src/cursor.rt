@@ -1,8 +1,6 @@
 //! What is left of a text that is read line by line.
 
-ghost use Rattle.std.specs.Prelude.{◌≡◌, ◌==◌, map, position, IfOk};
-ghost use Rattle.std.specs.List.{slice_split};
-ghost use Rattle.report_text.specs.ReportFaults.{is_line_feed, words_of};
+ghost use Rattle.report_text.specs.Vocabulary.{◌≡◌, ◌==◌, map, position, IfOk, slice_split, is_line_feed, words_of, Left, ◌<◌, length, IfErr, TakesLine, HasNoLine};
 
 use crate::fault::ReportFault;
 use cts_base::NoMemory;
@@ -17,17 +15,12 @@ pub(crate) struct Cursor<'a> {
 }
 
 impl<'a> Model for Cursor<'a> {
-    ghost use Rattle.report_text.specs.Walks.{Left};
-
     ghost Value = { Left };
 
     ghost view = { λ cursor. record { line = cursor.line; text = cursor.rest.now } };
 }
 
 impl<'a> Cursor<'a> {
-    ghost use Rattle.std.specs.Prelude.{◌≡◌, ◌<◌, ◌==◌, length, IfOk, IfErr};
-    ghost use Rattle.report_text.specs.Walks.{TakesLine, HasNoLine};
-
     /// All of a text, whose first line is line 1.
     pub(crate) fn of(text: &'a [u8]) -> Cursor<'a>
         ensures { result ≡ record { line = 1; text = text.now } }

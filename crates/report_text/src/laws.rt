@@ -1,6 +1,6 @@
 //! What the texts of reports keep: a function's clauses are laws, and its body is empty.
 
-ghost use Rattle.report_text.specs.Laws.{OneReport, OneFault, NoFaultOfReport, ReportOfNoFault, FaultOrReport};
+ghost use Rattle.report_text.specs.Vocabulary.{OneReport, OneFault, NoFaultOfReport, ReportOfNoFault, FaultOrReport};
 
 /// A text spells at most one report.
 pub fn one_report()

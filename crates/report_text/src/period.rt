@@ -1,8 +1,6 @@
 //! Appending the lines for a period and what shows it.
 
-ghost use Rattle.std.specs.Prelude.{◌≡◌, ◌++◌, length, All, OnOk};
-ghost use Rattle.cts_model.specs.text.PrintedLines.{line_of, text_of, period_line, cycle_lines, show_lines};
-ghost use Rattle.cts_model.specs.report.ReportBounds.{IsBetweenRegisters, ShowsPeriodAmong};
+ghost use Rattle.report_text.specs.Vocabulary.{◌≡◌, ◌++◌, length, All, OnOk, line_of, text_of, period_line, cycle_lines, show_lines, IsBetweenRegisters, ShowsPeriodAmong};
 
 use crate::line::{push_count, push_line, push_line_for};
 use cts_base::{Fraction, NoMemory, push_fraction};

@@ -1,6 +1,5 @@
-ghost use Rattle.cts_model.specs.report.ReportBounds.{IsOfSize};
+ghost use Rattle.report_text.specs.Vocabulary.{IsOfSize, HasSmallLengths};
 ghost use Rattle.cts_model.specs.report.OneProof.{size_prop};
-ghost use Rattle.report_text.specs.Pieces.{HasSmallLengths};
 
 use cts_model::{Circuit, Report};
 

@@ -1,12 +1,6 @@
 //! Reading a report: its lines one after the other, each by the form that is due.
 
-ghost use Rattle.std.specs.Prelude.{◌≡◌, ◌≢◌, ◌⊎◌, Some, Ok, Err, IfOk, IfErr};
-ghost use Rattle.cts_model.specs.declared.report.Report as model;
-ghost use Rattle.cts_model.specs.report.ReportBounds.{Spells};
-ghost use Rattle.report_text.specs.declared.fault.ReportFault as faults;
-ghost use Rattle.report_text.specs.declared.fault.ReportFault.TheVariants as fault;
-ghost use Rattle.report_text.specs.Laws.{HasFaultOrReport};
-ghost use Rattle.report_text.specs.ReportFaults.{HasFault};
+ghost use Rattle.report_text.specs.Vocabulary.{◌≡◌, ◌≢◌, ◌⊎◌, Some, Ok, Err, IfOk, IfErr, Spells, HasFaultOrReport, HasFault, Report, NoMemory, ReportFault};
 
 mod body;
 mod heading;
@@ -32,13 +26,13 @@ pub fn read_report(
     tech: &Tech,
 ) -> Result<Report, ReportFault>
     ensures ok { IfOk result (Spells circuit.now tech.now bytes.now) }
-    ensures fault { IfErr result (λ found. found ≢ fault.NoMemory
+    ensures fault { IfErr result (λ found. found ≢ NoMemory
         → HasFault circuit.now tech.now bytes.now (Some found)) }
-    ensures read { (report : model.Report) → Spells circuit.now tech.now bytes.now report
-        → (result ≡ Ok report) ⊎ (result ≡ Err fault.NoMemory) }
-    ensures faulty { (found : faults.ReportFault)
+    ensures read { (report : Report) → Spells circuit.now tech.now bytes.now report
+        → (result ≡ Ok report) ⊎ (result ≡ Err NoMemory) }
+    ensures faulty { (found : ReportFault)
         → HasFault circuit.now tech.now bytes.now (Some found)
-        → (result ≡ Err found) ⊎ (result ≡ Err fault.NoMemory) }
+        → (result ≡ Err found) ⊎ (result ≡ Err NoMemory) }
     // Each text has one of the two, so it is read, or refused with its fault, unless memory wants.
     ensures either { HasFaultOrReport circuit.now tech.now bytes.now }
 {

@@ -1,8 +1,4 @@
-ghost use Rattle.std.specs.Prelude.{◌≡◌, IfOk};
-ghost use Rattle.cts_model.specs.declared.tech.Tech.{Tech};
-ghost use Rattle.cts_model.specs.text.PrintedLines.{text_of};
-ghost use Rattle.cts_model.specs.report.ReportBounds.{IsOfSize, IsWithinBounds};
-ghost use Rattle.cts_model.specs.report.ReportLines.{report_lines};
+ghost use Rattle.report_text.specs.Vocabulary.{◌≡◌, IfOk, Tech, text_of, IsOfSize, IsWithinBounds, report_lines};
 
 use crate::printed::Printed;
 use crate::timing::push_timing;

@@ -1,36 +1,46 @@
 //! What the lines of a report are judged by.
 
-ghost use Rattle.std.specs.Prelude.{◌≡◌};
-ghost use Rattle.report_text.specs.NamesOf.{AreNamesOf, DenotesRegister, DenotesSignal};
-ghost use Rattle.report_text.specs.Values.{IsSmallScale};
+ghost use Rattle.report_text.specs.Vocabulary.{◌≡◌, IfOk, register_names, signal_names, DenotesRegister, DenotesSignal, IsSmallPeriod, IsSmallScale, scale_in};
 
 use crate::form::Scale;
-use crate::names::Names;
-use cts_model::Circuit;
+use crate::timing::signal_name;
+use cts_base::{Fraction, NoMemory};
+use cts_model::{Circuit, Grid, Tech};
+use name_set::NameSet;
 use std::alloc::Global;
 
-/// What the lines of a report are judged by: the names of a circuit, and how fine its numbers are.
+/// What the lines of a report are judged by: a circuit, the names of its registers and of its
+/// signals, and how fine its numbers are.
 #[derive(Clone, Copy)]
 pub(crate) struct Rules<'a> {
     pub alloc: Global,
     pub circuit: &'a Circuit,
-    names: &'a Names,
+    registers: &'a NameSet,
+    signals: &'a NameSet,
     pub scale: Scale,
-    ghost named: { AreNamesOf circuit.now names.now },
+    ghost registered: { registers.now ≡ register_names circuit.now },
+    ghost named: { signals.now ≡ signal_names circuit.now },
     ghost small: { IsSmallScale scale },
 }
 
 impl<'a> Rules<'a> {
     /// The rules of a circuit by its names. One step makes a unit, until the period tells how many
     /// do.
-    pub(crate) fn new(alloc: Global, circuit: &'a Circuit, names: &'a Names) -> Rules<'a>
-        requires { AreNamesOf circuit.now names.now }
+    pub(crate) fn new(
+        alloc: Global,
+        circuit: &'a Circuit,
+        registers: &'a NameSet,
+        signals: &'a NameSet,
+    ) -> Rules<'a>
+        requires registers { registers.now ≡ register_names circuit.now }
+        requires signals { signals.now ≡ signal_names circuit.now }
         ensures { result.circuit.now ≡ circuit.now }
     {
         Rules {
             alloc,
             circuit,
-            names,
+            registers,
+            signals,
             scale: Scale { den: 1, grid: 1 },
         }
     }
@@ -44,7 +54,8 @@ impl<'a> Rules<'a> {
         Rules {
             alloc: self.alloc,
             circuit: self.circuit,
-            names: self.names,
+            registers: self.registers,
+            signals: self.signals,
             scale,
         }
     }
@@ -53,13 +64,37 @@ impl<'a> Rules<'a> {
     pub(crate) fn register(&self, name: &[u8]) -> Option<u32>
         ensures { DenotesRegister self.now.circuit.now name.now result }
     {
-        self.names.register(name)
+        self.registers.number_of(name)
     }
 
     /// The number of the signal of that name. `None` says that no signal has it.
     pub(crate) fn signal(&self, name: &[u8]) -> Option<u32>
         ensures { DenotesSignal self.now.circuit.now name.now result }
     {
-        self.names.signal(name)
+        self.signals.number_of(name)
+    }
+}
+
+/// The names of the signals, in order.
+pub(crate) fn signal_names(alloc: Global, circuit: &Circuit) -> Result<NameSet, NoMemory>
+    ensures { IfOk result (λ names. names ≡ signal_names circuit.now) }
+{
+    let mut names = NameSet::new(alloc);
+    for signal in 0..circuit.signals.len() {
+        names.push(signal_name(circuit, signal))?;
+    }
+    Ok(names)
+}
+
+/// The steps of a report of that period.
+pub(crate) fn scale_of(period: Fraction, tech: &Tech) -> Scale
+    requires { IsSmallPeriod period }
+    ensures value { result ≡ scale_in tech.now period }
+    ensures small { IsSmallScale result }
+{
+    let grid = Grid { period, tech };
+    Scale {
+        den: period.den(),
+        grid: grid.steps_of_unit(),
     }
 }

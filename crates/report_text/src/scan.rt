@@ -1,7 +1,7 @@
 //! Reading a line word by word, each by the field that is due.
 
-ghost use Rattle.std.specs.Prelude.{◌≡◌};
-ghost use Rattle.report_text.specs.FlawOrder.{rank, sooner_flaw};
+ghost use Rattle.report_text.specs.Vocabulary.{◌≡◌, rank, sooner_flaw, drop, map, LineLeft, ◌<◌, ◌≤◌, ◌^◌, [], ◌∷◌, IfErr, None, length, get_or, pos, codes, if◌then◌else◌, signed_decimal, fraction_text, quotient_text, register_name, IsBelow, signal_name, slack_text, IsSmallPeriod, IsSmallSlack, is_word, length_field, register_named, slack_field, keyword_text, version_text, EndsIn, Keeps, Takes, TakesNext, Circuit};
+ghost use Rattle.report_text.specs.LineFields as field;
 
 use crate::field::{Flaw, Keyword};
 use crate::judging::fraction::{read_period, read_slack, read_steps};
@@ -32,9 +32,6 @@ pub(crate) struct Scan<'a> {
 }
 
 impl<'a> Model for Scan<'a> {
-    ghost use Rattle.std.specs.Prelude.{drop, map};
-    ghost use Rattle.report_text.specs.Scans.{LineLeft};
-
     ghost Value = { LineLeft };
 
     ghost view = { λ scan. record {
@@ -44,21 +41,6 @@ impl<'a> Model for Scan<'a> {
 }
 
 impl<'a> Scan<'a> {
-    ghost use Rattle.std.specs.Prelude.{◌<◌, ◌≤◌, ◌^◌, [], ◌∷◌, IfErr, None, length, map, get_or, pos, codes, if◌then◌else◌};
-    ghost use Rattle.std.specs.Fmt.{signed_decimal};
-    ghost use Rattle.cts_base.specs.Fractions.{fraction_text, quotient_text};
-    ghost use Rattle.cts_model.specs.declared.circuit.Circuit as model;
-    ghost use Rattle.cts_model.specs.netlist.Paths.{register_name};
-    ghost use Rattle.cts_model.specs.placement.Points.{IsBelow};
-    ghost use Rattle.cts_model.specs.report.ReportLines.{signal_name};
-    ghost use Rattle.cts_model.specs.text.PrintedLines.{slack_text};
-    ghost use Rattle.cts_model.specs.timing.Schedules.{IsSmallPeriod};
-    ghost use Rattle.cts_model.specs.timing.Slacks.{IsSmallSlack};
-    ghost use Rattle.report_text.specs.LineFields as field;
-    ghost use Rattle.report_text.specs.Forms.{is_word, length_field, register_named, slack_field};
-    ghost use Rattle.report_text.specs.Keywords.{keyword_text, version_text};
-    ghost use Rattle.report_text.specs.Scans.{EndsIn, Keeps, Takes, TakesNext};
-
     /// All words of a line.
     pub(crate) fn of(words: &'a [&'a [u8]]) -> Scan<'a>
         ensures { result ≡ record { words = map (λ word. word.now) words.now; flaw = None } }
@@ -93,7 +75,7 @@ impl<'a> Scan<'a> {
 
     /// What is wrong with the line first. Nothing may be left.
     pub(crate) fn end(&self) -> Option<Flaw>
-        ensures judged { (circuit : model.Circuit) → EndsIn circuit [] self.now result }
+        ensures judged { (circuit : Circuit) → EndsIn circuit [] self.now result }
         ensures sound { result ≡ None → (self.now.flaw ≡ None) × (self.now.words ≡ []) }
     {
         if self.left().is_empty() {
@@ -136,7 +118,7 @@ impl<'a> Scan<'a> {
 
     /// Takes a fixed word.
     pub(crate) fn keyword(&mut self, keyword: Keyword)
-        ensures { (circuit : model.Circuit) → Takes circuit (field.Word keyword ∷ [])
+        ensures { (circuit : Circuit) → Takes circuit (field.Word keyword ∷ [])
             (keyword_text keyword ∷ []) (Unit {0}) self.old self.new }
     {
         let word = self.next();
@@ -145,7 +127,7 @@ impl<'a> Scan<'a> {
 
     /// Takes the word of a version.
     pub(crate) fn version(&mut self) -> Version
-        ensures { (circuit : model.Circuit) → Takes circuit (field.Version ∷ [])
+        ensures { (circuit : Circuit) → Takes circuit (field.Version ∷ [])
             (version_text result ∷ []) (Unit {0}) self.old self.new }
     {
         let word = self.next();
@@ -154,7 +136,7 @@ impl<'a> Scan<'a> {
 
     /// Takes the word of a kind of constraint: whether it is a setup constraint.
     pub(crate) fn kind(&mut self) -> bool
-        ensures { (circuit : model.Circuit) → Takes circuit (field.Kind ∷ [])
+        ensures { (circuit : Circuit) → Takes circuit (field.Kind ∷ [])
             ((if result then codes "setup" else codes "hold") ∷ []) (Unit {0}) self.old self.new }
     {
         let word = self.next();
@@ -163,7 +145,7 @@ impl<'a> Scan<'a> {
 
     /// Takes that number.
     pub(crate) fn exactly(&mut self, number: u32)
-        ensures { (circuit : model.Circuit) → Takes circuit (field.Exactly number ∷ [])
+        ensures { (circuit : Circuit) → Takes circuit (field.Exactly number ∷ [])
             (signed_decimal (pos number) ∷ []) (Unit {0}) self.old self.new }
     {
         let word = self.next();
@@ -172,7 +154,7 @@ impl<'a> Scan<'a> {
 
     /// Takes a number of that range.
     pub(crate) fn number(&mut self, least: u32, most: u32) -> u32
-        ensures { (circuit : model.Circuit) → Takes circuit (field.Number least most ∷ [])
+        ensures { (circuit : Circuit) → Takes circuit (field.Number least most ∷ [])
             (signed_decimal (pos result) ∷ []) ((least ≤ result) × (result ≤ most))
             self.old self.new }
     {
@@ -182,7 +164,7 @@ impl<'a> Scan<'a> {
 
     /// Takes the number of the words that stand after it.
     pub(crate) fn counted(&mut self, count: usize, most: usize)
-        ensures { (circuit : model.Circuit) → Takes circuit (field.Counted count most ∷ [])
+        ensures { (circuit : Circuit) → Takes circuit (field.Counted count most ∷ [])
             (signed_decimal (pos count) ∷ []) ((1 ≤ count) × (count ≤ most)) self.old self.new }
     {
         let word = self.next();
@@ -191,7 +173,7 @@ impl<'a> Scan<'a> {
 
     /// Takes a weight in ticks.
     pub(crate) fn weight(&mut self) -> i128
-        ensures { (circuit : model.Circuit) → Takes circuit (field.Weight ∷ [])
+        ensures { (circuit : Circuit) → Takes circuit (field.Weight ∷ [])
             (signed_decimal result ∷ []) (IsBelow (10 ^ 12) result) self.old self.new }
     {
         let word = self.next();
@@ -200,7 +182,7 @@ impl<'a> Scan<'a> {
 
     /// Takes a period in ticks.
     pub(crate) fn period(&mut self) -> Fraction
-        ensures { (circuit : model.Circuit) → Takes circuit (field.Period ∷ [])
+        ensures { (circuit : Circuit) → Takes circuit (field.Period ∷ [])
             (fraction_text result.num result.den ∷ []) (IsSmallPeriod result) self.old self.new }
     {
         let word = self.next();
@@ -209,7 +191,7 @@ impl<'a> Scan<'a> {
 
     /// Takes a slack in ticks, or `-` for none.
     pub(crate) fn slack(&mut self, rules: &Rules) -> Option<Fraction>
-        ensures { (circuit : model.Circuit) → Takes circuit (slack_field rules.now.scale ∷ [])
+        ensures { (circuit : Circuit) → Takes circuit (slack_field rules.now.scale ∷ [])
             (slack_text result ∷ []) (IsSmallSlack rules.now.scale.den result) self.old self.new }
     {
         let word = self.next();
@@ -218,7 +200,7 @@ impl<'a> Scan<'a> {
 
     /// Takes an arrival, in steps of a tick.
     pub(crate) fn arrival(&mut self, rules: &Rules) -> i128
-        ensures { (circuit : model.Circuit) → Takes circuit
+        ensures { (circuit : Circuit) → Takes circuit
             (field.Steps rules.now.scale.den (pos (10 ^ 19)) ∷ [])
             (quotient_text result rules.now.scale.den ∷ []) (IsBelow (10 ^ 19) result)
             self.old self.new }
@@ -229,7 +211,7 @@ impl<'a> Scan<'a> {
 
     /// Takes a length, in grid steps.
     pub(crate) fn length(&mut self, rules: &Rules) -> i128
-        ensures { (circuit : model.Circuit) → Takes circuit (length_field rules.now.scale ∷ [])
+        ensures { (circuit : Circuit) → Takes circuit (length_field rules.now.scale ∷ [])
             (quotient_text result rules.now.scale.grid ∷ []) (IsBelow (10 ^ 32) result)
             self.old self.new }
     {
@@ -239,7 +221,7 @@ impl<'a> Scan<'a> {
 
     /// Takes the length of the whole wire, in grid steps.
     pub(crate) fn total(&mut self, rules: &Rules) -> i128
-        ensures { (circuit : model.Circuit) → Takes circuit
+        ensures { (circuit : Circuit) → Takes circuit
             (field.Steps rules.now.scale.grid (pos (10 ^ 36)) ∷ [])
             (quotient_text result rules.now.scale.grid ∷ []) (IsBelow (10 ^ 36) result)
             self.old self.new }

@@ -1,12 +1,9 @@
 //! What the sections of a report tell.
 
-ghost use Rattle.std.specs.Prelude.{◌≡◌, [], ◌∷◌, ◌++◌, OnOk};
-
 use crate::timing_values::Timed;
 use crate::tree_values::{MergeLine, NodeLine, SourceLine, TotalLine};
-use cts_base::{Fraction, Listed, NoMemory};
-use cts_model::{Constraint, Lead, PeriodShow, Version};
-use std::alloc::Global;
+use cts_base::{Fraction, Listed};
+use cts_model::{Lead, PeriodShow, Version};
 
 /// A whole report, as its lines tell it.
 #[derive(Drop)]
@@ -54,38 +51,4 @@ pub(crate) struct Body {
     pub placed: Listed<NodeLine>,
     /// The last line.
     pub total: TotalLine,
-}
-
-/// The constraints of a cycle, each with its path.
-#[derive(Drop)]
-pub(crate) struct Pathed {
-    /// The constraints in order.
-    pub cycle: Listed<Constraint>,
-    /// The path of each.
-    pub paths: Listed<Listed<u32>>,
-}
-
-/// Puts one more constraint and its path last.
-pub(crate) fn push_pathed(
-    pathed: &mut Pathed,
-    constraint: Constraint,
-    path: Listed<u32>,
-) -> Result<(), NoMemory>
-    ensures cycle { OnOk result (pathed.new.cycle ≡ pathed.old.cycle ++ constraint ∷ []) }
-    ensures paths { OnOk result (pathed.new.paths ≡ pathed.old.paths ++ path ∷ []) }
-{
-    pathed.cycle.push(constraint)?;
-    pathed.paths.push(path)?;
-    Ok(())
-}
-
-/// No constraints.
-pub(crate) fn no_cycle(alloc: Global) -> Pathed
-    ensures cycle { result.cycle ≡ [] }
-    ensures paths { result.paths ≡ [] }
-{
-    Pathed {
-        cycle: Listed::new(alloc),
-        paths: Listed::new(alloc),
-    }
 }

@@ -1,13 +1,6 @@
 //! Appending the lines of a report's timing: the period, the schedule, and what shows them.
 
-ghost use Rattle.std.specs.Prelude.{◌≡◌, ◌<◌, ◌≤ℤ◌, ◌^◌, ℤ, pos, ◌++◌, ◌∷◌, [], length, map, codes, All, OnOk};
-ghost use Rattle.cts_model.specs.declared.report.Version.TheVariants.{Second};
-ghost use Rattle.cts_base.specs.Fractions.{HasSizeBelow};
-ghost use Rattle.cts_model.specs.text.PrintedLines.{line_of, text_of, count_line, register_line, slack_text};
-ghost use Rattle.cts_model.specs.report.ReportBounds.{HasTimingBounds, IsBetweenRegisters, ShowsPeriodAmong, LeadsAmong, cycle_length};
-ghost use Rattle.cts_model.specs.report.ReportLines.{version_line, path_line, pathed_lines, period_show_lines, register_line_at, lead_line, lines_below, timing_lines, signal_name};
-ghost use Rattle.cts_model.specs.timing.Schedules.{arrival_of};
-ghost use Rattle.report_text.specs.Pieces.{suffix};
+ghost use Rattle.report_text.specs.Vocabulary.{◌≡◌, ◌<◌, ◌≤ℤ◌, ◌^◌, ℤ, pos, ◌++◌, ◌∷◌, [], length, map, codes, All, OnOk, Second, HasSizeBelow, line_of, text_of, count_line, register_line, slack_text, HasTimingBounds, IsBetweenRegisters, ShowsPeriodAmong, LeadsAmong, cycle_length, version_line, path_line, pathed_lines, period_show_lines, register_line_at, lead_line, lines_below, timing_lines, signal_name, arrival_of, suffix};
 
 use crate::line::{push_count, push_line, push_line_for, push_number, push_word};
 use crate::period::{push_period, push_show};
@@ -50,28 +43,12 @@ fn push_show_of(out: &mut Vec<u8>, printed: &Printed) -> Result<(), NoMemory>
     let report = printed.report;
     match report.version {
         Version::First => push_show(out, circuit, &report.shown),
-        Version::Second => {
-            push_pathed_show(out, circuit, &report.shown, report.paths.as_slice())
-        }
-    }
-}
-
-// Appends the lines of what shows the period, with a path for each constraint.
-fn push_pathed_show(
-    out: &mut Vec<u8>,
-    circuit: &Circuit,
-    shown: &PeriodShow,
-    paths: &[Listed<u32>],
-) -> Result<(), NoMemory>
-    requires registers { ShowsPeriodAmong (length circuit.now.registers) shown.now }
-    requires signals { All (All (λ number. number < length circuit.now.signals)) paths.now }
-    requires paths { length paths.now ≡ cycle_length shown.now }
-    ensures { OnOk result (out.new.items ≡ out.old.items ++ text_of
-        (period_show_lines Second circuit.now shown.now paths.now)) }
-{
-    match shown {
-        PeriodShow::Cycle(cycle) => push_pathed(out, circuit, cycle.as_slice(), paths),
-        PeriodShow::Floor => push_line(out, b"floor", &[]),
+        Version::Second => match &report.shown {
+            PeriodShow::Cycle(cycle) => {
+                push_pathed(out, circuit, cycle.as_slice(), report.paths.as_slice())
+            }
+            PeriodShow::Floor => push_line(out, b"floor", &[]),
+        },
     }
 }
 
@@ -140,27 +117,12 @@ fn push_registers(out: &mut Vec<u8>, printed: &Printed) -> Result<(), NoMemory>
         (lines_below (register_line_at printed.now.circuit.now printed.now.report.now)
         (length printed.now.report.now.schedule.at))) }
 {
-    for register in 0..printed.report.schedule.at.len() {
-        push_register_at(out, printed, register)?;
+    let report = printed.report;
+    for register in 0..report.schedule.at.len() {
+        let slack = report.slacks.as_slice()[register];
+        push_register(out, printed.circuit, &report.schedule, slack, register)?;
     }
     Ok(())
-}
-
-// Appends the line of the register with that number.
-fn push_register_at(out: &mut Vec<u8>, printed: &Printed, register: usize) -> Result<(), NoMemory>
-    requires within { register < length printed.now.circuit.now.registers }
-    requires bounds { HasTimingBounds printed.now.report.now }
-    ensures { OnOk result (out.new.items ≡ out.old.items
-        ++ line_of (register_line_at printed.now.circuit.now printed.now.report.now register)) }
-{
-    let slack = printed.report.slacks.as_slice()[register];
-    push_register(
-        out,
-        printed.circuit,
-        &printed.report.schedule,
-        slack,
-        register,
-    )
 }
 
 /// Appends the line of a register: its arrival and its slacks, in ticks.

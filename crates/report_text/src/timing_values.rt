@@ -1,15 +1,8 @@
 //! What the lines of a report's timing say.
 
-ghost use Rattle.std.specs.Prelude.{◌≡◌, ◌<◌, IfOk, All, length, map, replicate};
-ghost use Rattle.cts_model.specs.report.ReportBounds.{IsBetweenRegisters, HasSmallWeight};
-ghost use Rattle.cts_model.specs.report.ReportLines.{signal_name};
-ghost use Rattle.cts_model.specs.text.PrintedLines.{line_for};
+ghost use Rattle.report_text.specs.Vocabulary.{◌≡◌, ◌<◌, IfOk, All, length, map, replicate, IsBetweenRegisters, HasSmallWeight, signal_name, line_for, constraint_fields, Takes, DenotesPeriod, DenotesShow, DenotesConstraint, DenotesPath, DenotesLead, DenotesTimed, DenotesVersion};
 ghost use Rattle.report_text.specs.LineFields as field;
 ghost use Rattle.report_text.specs.declared.form.Form.TheVariants as form;
-ghost use Rattle.report_text.specs.Forms.{constraint_fields};
-ghost use Rattle.report_text.specs.Scans.{Takes};
-ghost use Rattle.report_text.specs.TimingValues.{DenotesPeriod, DenotesShow, DenotesConstraint, DenotesPath, DenotesLead};
-ghost use Rattle.report_text.specs.Walks.{DenotesTimed, DenotesVersion};
 
 use crate::field::Keyword;
 use crate::form::Form;
@@ -34,26 +27,19 @@ impl Line for Version {
     }
 }
 
-/// The line of the period.
-#[derive(Clone, Copy, Debug, PartialEq, Eq)]
-pub(crate) struct PeriodLine {
-    /// The period in ticks.
-    pub period: Fraction,
-}
-
-impl Line for PeriodLine {
+// The period in ticks.
+impl Line for Fraction {
     ghost due = { λ number. form.Period };
 
-    ghost says = { λ circuit scale number words line. DenotesPeriod words line.period };
+    ghost says = { λ circuit scale number words period. DenotesPeriod words period };
 
     fn form(_number: u32) -> Form {
         Form::Period
     }
 
-    fn read(_rules: &Rules, _number: u32, scan: &mut Scan) -> Result<PeriodLine, NoMemory> {
+    fn read(_rules: &Rules, _number: u32, scan: &mut Scan) -> Result<Fraction, NoMemory> {
         scan.keyword(Keyword::Period);
-        let period = scan.period();
-        Ok(PeriodLine { period })
+        Ok(scan.period())
     }
 }
 
@@ -122,35 +108,27 @@ fn read_constraint(rules: &Rules, scan: &mut Scan) -> Constraint
     }
 }
 
-/// The line of a path.
-#[derive(Drop)]
-pub(crate) struct PathLine {
-    /// Its signals; none where it isn't printed.
-    pub signals: Listed<u32>,
-}
-
-impl Line for PathLine {
+// The signals of a path, none where it isn't printed.
+impl Line for Listed<u32> {
     ghost due = { λ number. form.Path };
 
-    ghost says = { λ circuit scale number words line. DenotesPath circuit words line.signals };
+    ghost says = { λ circuit scale number words path. DenotesPath circuit words path };
 
     fn form(_number: u32) -> Form {
         Form::Path
     }
 
-    fn read(rules: &Rules, _number: u32, scan: &mut Scan) -> Result<PathLine, NoMemory> {
+    fn read(rules: &Rules, _number: u32, scan: &mut Scan) -> Result<Listed<u32>, NoMemory> {
         let is_printed = !scan.has_word(1, Keyword::Dash);
         let count = scan.len().saturating_sub(2);
         scan.keyword(Keyword::Path);
         if !is_printed {
             scan.keyword(Keyword::Dash);
-            return Ok(PathLine {
-                signals: Listed::new(rules.alloc),
-            });
+            return Ok(Listed::new(rules.alloc));
         }
         scan.counted(count, 65536);
         let signals = read_signals(rules, count, scan)?;
-        Ok(PathLine { signals })
+        Ok(signals)
     }
 }
 

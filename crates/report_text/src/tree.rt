@@ -1,14 +1,7 @@
 //! Appending the lines of a report's tree: its merges, its nodes, and what shows their reaches.
 
-ghost use Rattle.std.specs.Prelude.{◌≡◌, ◌<◌, ◌^◌, ◌++◌, ◌∷◌, ◌≤ℤ◌, ◌<ℤ◌, [], pos, length, All, OnOk, slice_index_or};
+ghost use Rattle.report_text.specs.Vocabulary.{◌≡◌, ◌<◌, ◌^◌, ◌++◌, ◌∷◌, ◌≤ℤ◌, ◌<ℤ◌, [], pos, length, All, OnOk, slice_index_or, flat_map, IsBelow, IsPointBelow, line_of, text_of, IsSmallWire, ShowsAmong, length_text, lines_below, merge_line_at, no_wire, node_line_at, number_at, point_words, show_words, source_line, tree_lines, wire_words, suffix, HasSmallLengths, wire_line};
 ghost use Rattle.cts_model.specs.declared.tree.Show.TheVariants.{Root};
-ghost use Rattle.std.specs.List.{flat_map};
-ghost use Rattle.cts_model.specs.placement.Points.{IsBelow, IsPointBelow};
-ghost use Rattle.cts_model.specs.text.PrintedLines.{line_of, text_of};
-ghost use Rattle.cts_model.specs.report.ReportBounds.{IsSmallWire, ShowsAmong};
-ghost use Rattle.cts_model.specs.report.ReportLines.{length_text, lines_below, merge_line_at, no_wire, node_line_at, number_at, point_words, show_words, source_line, tree_lines, wire_words};
-ghost use Rattle.report_text.specs.Pieces.{suffix, HasSmallLengths};
-ghost use Rattle.report_text.specs.WireLines.{wire_line};
 
 use crate::line::{push_count, push_node, push_number, push_word};
 use crate::printed::Printed;

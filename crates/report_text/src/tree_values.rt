@@ -1,14 +1,7 @@
 //! What the lines of a report's tree say.
 
-ghost use Rattle.std.specs.Prelude.{◌≡◌, ◌≤◌, ◌+◌, ◌*◌, ◌^◌, ℕ, [], ◌∷◌, All, IsNone, IfSome, replicate, take};
-ghost use Rattle.std.specs.List.{flat_map};
-ghost use Rattle.cts_model.specs.declared.circuit.Circuit as model;
-ghost use Rattle.cts_model.specs.placement.Points.{IsPointBelow};
-ghost use Rattle.cts_model.specs.tree.DrawnWires.{ArePadded};
+ghost use Rattle.report_text.specs.Vocabulary.{◌≡◌, ◌≤◌, ◌+◌, ◌*◌, ◌^◌, ℕ, [], ◌∷◌, All, IsNone, IfSome, replicate, take, flat_map, IsPointBelow, ArePadded, length_field, Takes, SaysMerge, SaysNode, SaysSource, SaysTotal, coordinates, Circuit};
 ghost use Rattle.report_text.specs.declared.form.Form.TheVariants as form;
-ghost use Rattle.report_text.specs.Forms.{length_field};
-ghost use Rattle.report_text.specs.Scans.{Takes};
-ghost use Rattle.report_text.specs.Values.{SaysMerge, SaysNode, SaysSource, SaysTotal, coordinates};
 
 use crate::field::Keyword;
 use crate::form::Form;
@@ -162,7 +155,7 @@ fn points_in(words: usize) -> Option<u8>
 
 // Reads the two words of a point.
 fn read_point(rules: &Rules, scan: &mut Scan) -> Point
-    ensures { (circuit : model.Circuit) → Takes circuit
+    ensures { (circuit : Circuit) → Takes circuit
         (length_field rules.now.scale ∷ length_field rules.now.scale ∷ [])
         (coordinates rules.now.scale.grid result) (IsPointBelow (10 ^ 32) result)
         scan.old scan.new }
@@ -176,7 +169,7 @@ fn read_point(rules: &Rules, scan: &mut Scan) -> Point
 fn read_corners(rules: &Rules, points: u8, scan: &mut Scan) -> [Point; 5]
     requires { points ≤ 5 }
     ensures padded { ArePadded (record { corners = result; used = points }) }
-    ensures taken { (circuit : model.Circuit) → Takes circuit
+    ensures taken { (circuit : Circuit) → Takes circuit
         (replicate (2 * points) (length_field rules.now.scale))
         (flat_map (coordinates rules.now.scale.grid) (take points result))
         (All (IsPointBelow (10 ^ 32)) (take points result)) scan.old scan.new }

@@ -1,9 +1,6 @@
 //! The words of a line, and the fixed ones among them.
 
-ghost use Rattle.std.specs.Prelude.{◌≡◌, [], map, drop, get_or};
-ghost use Rattle.std.specs.Str.{bytes_eq};
-ghost use Rattle.report_text.specs.Forms.{is_word};
-ghost use Rattle.report_text.specs.Keywords.{keyword_text};
+ghost use Rattle.report_text.specs.Vocabulary.{◌≡◌, [], map, drop, get_or, bytes_eq, is_word, keyword_text};
 
 use crate::field::Keyword;
 
@@ -31,14 +28,7 @@ pub(crate) fn words_after<'a>(words: &'a [&'a [u8]], count: usize) -> &'a [&'a [
 pub(crate) fn is_word(words: &[&[u8]], place: usize, keyword: Keyword) -> bool
     ensures { result ≡ is_word (map (λ word. word.now) words.now) place keyword }
 {
-    is_keyword(word_at(words, place), keyword)
-}
-
-// Whether a word is that fixed one.
-fn is_keyword(word: &[u8], keyword: Keyword) -> bool
-    ensures { result ≡ bytes_eq word.now (keyword_text keyword) }
-{
-    word == keyword_text(keyword)
+    word_at(words, place) == keyword_text(keyword)
 }
 
 /// The bytes of a fixed word.

@@ -1,15 +1,5 @@
-ghost use Rattle.std.specs.Prelude.{◌≡◌, ◌↔◌, IfErr, IfOk, IsTrue, MatchOption, pos, ◌≤ℤ◌, ◌<ℤ◌, ◌*ℤ◌, ◌^◌, int_div, int_rem, nat_abs};
-ghost use Rattle.cts_base.specs.Fractions.{fraction_text, quotient_text};
-ghost use Rattle.cts_base.specs.NumberTexts.{HaveSmallSizes, SpellsQuotient};
-ghost use Rattle.cts_model.specs.declared.circuit.Circuit.{Circuit};
-ghost use Rattle.cts_model.specs.placement.Points.{IsBelow};
-ghost use Rattle.cts_model.specs.text.PrintedLines.{slack_text};
-ghost use Rattle.cts_model.specs.timing.Schedules.{IsSmallPeriod};
-ghost use Rattle.cts_model.specs.timing.Slacks.{IsSmallSlack};
+ghost use Rattle.report_text.specs.Vocabulary.{◌≡◌, ◌↔◌, IfErr, IfOk, IsTrue, MatchOption, pos, ◌≤ℤ◌, ◌<ℤ◌, ◌*ℤ◌, ◌^◌, int_div, int_rem, nat_abs, fraction_text, quotient_text, HaveSmallSizes, SpellsQuotient, Circuit, IsBelow, slack_text, IsSmallPeriod, IsSmallSlack, AreSteps, WordHasFlaw, HasStepsFlaw, IsBetween, IsNegativeQuotient, IsRefusedFor, flaw_in};
 ghost use Rattle.report_text.specs.LineFields.{Period, Slack, Steps};
-ghost use Rattle.report_text.specs.Fields.{AreSteps, WordHasFlaw};
-ghost use Rattle.report_text.specs.JudgedFractions.{HasStepsFlaw, IsBetween, IsNegativeQuotient, IsRefusedFor};
-ghost use Rattle.report_text.specs.Scans.{flaw_in};
 
 use crate::field::{Flaw, Keyword};
 use crate::judging::keyword::is_keyword;

@@ -1,9 +1,5 @@
-ghost use Rattle.std.specs.Prelude.{◌≡◌, ◌↔◌, IfOk, IsTrue, codes, if◌then◌else◌};
-ghost use Rattle.cts_model.specs.declared.circuit.Circuit.{Circuit};
+ghost use Rattle.report_text.specs.Vocabulary.{◌≡◌, ◌↔◌, IfOk, IsTrue, codes, if◌then◌else◌, Circuit, WordHasFlaw, keyword_text, version_text, flaw_in};
 ghost use Rattle.report_text.specs.LineFields as field;
-ghost use Rattle.report_text.specs.Fields.{WordHasFlaw};
-ghost use Rattle.report_text.specs.Keywords.{keyword_text, version_text};
-ghost use Rattle.report_text.specs.Scans.{flaw_in};
 
 use crate::field::{Flaw, Keyword};
 use crate::words::keyword_text;

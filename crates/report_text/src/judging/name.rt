@@ -1,9 +1,5 @@
-ghost use Rattle.std.specs.Prelude.{◌≡◌, ◌<◌, ◌≤◌, IfOk, length};
-ghost use Rattle.cts_model.specs.netlist.Paths.{register_name};
-ghost use Rattle.cts_model.specs.report.ReportLines.{signal_name};
+ghost use Rattle.report_text.specs.Vocabulary.{◌≡◌, ◌<◌, ◌≤◌, IfOk, length, register_name, signal_name, WordHasFlaw, flaw_in};
 ghost use Rattle.report_text.specs.LineFields.{From, Named, Register, Signal};
-ghost use Rattle.report_text.specs.Fields.{WordHasFlaw};
-ghost use Rattle.report_text.specs.Scans.{flaw_in};
 
 use crate::field::Flaw;
 use crate::rules::Rules;

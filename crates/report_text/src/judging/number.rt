@@ -1,11 +1,5 @@
-ghost use Rattle.std.specs.Prelude.{◌≡◌, ◌↔◌, ◌≤◌, ◌^◌, IfOk, IsTrue, pos};
-ghost use Rattle.std.specs.Fmt.{signed_decimal};
-ghost use Rattle.cts_base.specs.NumberTexts.{SpellsWhole};
-ghost use Rattle.cts_model.specs.declared.circuit.Circuit.{Circuit};
-ghost use Rattle.cts_model.specs.placement.Points.{IsBelow};
+ghost use Rattle.report_text.specs.Vocabulary.{◌≡◌, ◌↔◌, ◌≤◌, ◌^◌, IfOk, IsTrue, pos, signed_decimal, SpellsWhole, Circuit, IsBelow, WordHasFlaw, flaw_in};
 ghost use Rattle.report_text.specs.LineFields.{Counted, Exactly, Number, Weight};
-ghost use Rattle.report_text.specs.Fields.{WordHasFlaw};
-ghost use Rattle.report_text.specs.Scans.{flaw_in};
 
 use crate::field::Flaw;
 use cts_base::read_whole;

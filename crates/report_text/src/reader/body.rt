@@ -1,9 +1,6 @@
 //! The sections of a report after what shows its period.
 
-ghost use Rattle.std.specs.Prelude.{◌≡◌, ◌<◌, ◌≤◌, IfOk, IfErr, length};
-ghost use Rattle.report_text.specs.Bodies.{HasBody, HasVersionLeads};
-ghost use Rattle.report_text.specs.Forms.{forms_after, lead_forms};
-ghost use Rattle.report_text.specs.Walks.{Stops};
+ghost use Rattle.report_text.specs.Vocabulary.{◌≡◌, ◌<◌, ◌≤◌, IfOk, IfErr, length, HasBody, forms_after, count_in, Stops};
 
 use crate::cursor::Cursor;
 use crate::fault::ReportFault;
@@ -12,8 +9,7 @@ use crate::reader::line::read;
 use crate::reader::rows::{read_counted, read_rows};
 use crate::rules::Rules;
 use crate::sections::Body;
-use cts_base::Listed;
-use cts_model::{Circuit, Lead, Version};
+use cts_model::{Circuit, Version};
 
 /// Reads all sections after what shows the period.
 pub(crate) fn read_body(
@@ -47,7 +43,7 @@ fn read_sections(
         (forms_after version count) cursor.old) }
 {
     let timings = read_counted(rules, Keyword::Registers, 0, count, cursor)?;
-    let leads = read_leads(rules, version, count, cursor)?;
+    let leads = read_rows(rules, 0, leads_in(version, count), cursor)?;
     let merged = read_counted(rules, Keyword::Merges, count, count - 1, cursor)?;
     let source = read(rules, 0, cursor)?;
     let placed = read_counted(rules, Keyword::Nodes, 0, 2 * count - 1, cursor)?;
@@ -62,26 +58,14 @@ fn read_sections(
     })
 }
 
-// Reads the leads, which the first version hasn't.
-fn read_leads(
-    rules: &Rules,
-    version: Version,
-    count: u32,
-    cursor: &mut Cursor,
-) -> Result<Listed<Lead>, ReportFault>
-    requires line { cursor.old.line < 100000 }
-    requires count { count ≤ 10000 }
-    ensures ok { IfOk result (HasVersionLeads rules.now.circuit.now rules.now.scale version count
-        cursor.old cursor.new) }
-    ensures fault { IfErr result (Stops rules.now.circuit.now rules.now.scale
-        (lead_forms version count) cursor.old) }
+// How many leads a report over so many registers has.
+fn leads_in(version: Version, count: u32) -> u32
+    ensures value { result ≡ count_in version count }
+    ensures few { result ≤ count }
 {
     match version {
-        Version::First => Ok(Listed::new(rules.alloc)),
-        Version::Second => {
-            let leads = read_rows(rules, 0, count, cursor)?;
-            Ok(leads)
-        }
+        Version::First => 0,
+        Version::Second => count,
     }
 }
 

@@ -1,10 +1,6 @@
 //! The heading of a report, and what shows its period.
 
-ghost use Rattle.std.specs.Prelude.{◌<◌, Some, IfOk, IfErr};
-ghost use Rattle.report_text.specs.declared.form.Scale as scales;
-ghost use Rattle.report_text.specs.Forms.{cycle_forms};
-ghost use Rattle.report_text.specs.Headings.{HasHeading, HasShown, IsSmallCount, count_of, heading_forms};
-ghost use Rattle.report_text.specs.Walks.{Stops};
+ghost use Rattle.report_text.specs.Vocabulary.{◌<◌, Some, IfOk, IfErr, cycle_forms, HasHeading, HasShown, IsSmallCount, count_of, heading_forms, Stops, Scale};
 
 use crate::cursor::Cursor;
 use crate::fault::ReportFault;
@@ -12,8 +8,8 @@ use crate::reader::line::read;
 use crate::reader::rows::{read_pathed, read_rows};
 use crate::rules::Rules;
 use crate::sections::{Heading, Shown};
-use crate::timing_values::{PeriodLine, ShowLine};
-use cts_base::Listed;
+use crate::timing_values::ShowLine;
+use cts_base::{Fraction, Listed};
 use cts_model::{PeriodShow, Version};
 
 /// Reads the version, the period and what shows it. None of these lines has a number of steps, so
@@ -21,15 +17,15 @@ use cts_model::{PeriodShow, Version};
 pub(crate) fn read_heading(rules: &Rules, cursor: &mut Cursor) -> Result<Heading, ReportFault>
     requires line { cursor.old.line < 100 }
     ensures ok { IfOk result (HasHeading rules.now.circuit.now cursor.old cursor.new) }
-    ensures fault { IfErr result (λ fault. (scale : scales.Scale)
+    ensures fault { IfErr result (λ fault. (scale : Scale)
         → Stops rules.now.circuit.now scale heading_forms cursor.old fault) }
 {
     let version: Version = read(rules, 0, cursor)?;
-    let period: PeriodLine = read(rules, 0, cursor)?;
+    let period: Fraction = read(rules, 0, cursor)?;
     let show: ShowLine = read(rules, 0, cursor)?;
     Ok(Heading {
         version,
-        period: period.period,
+        period,
         count: show.count,
     })
 }
@@ -81,10 +77,10 @@ fn read_constraints(
             })
         }
         Version::Second => {
-            let pathed = read_pathed(rules, count, cursor)?;
+            let (cycle, paths) = read_pathed(rules, count, cursor)?;
             Ok(Shown {
-                shown: PeriodShow::Cycle(pathed.cycle),
-                paths: pathed.paths,
+                shown: PeriodShow::Cycle(cycle),
+                paths,
             })
         }
     }

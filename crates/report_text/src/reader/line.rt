@@ -1,16 +1,8 @@
 //! A line of a report that is read by the form that is due.
 
-ghost use Rattle.std.specs.Prelude.{◌≡◌, ◌≢◌, ◌<◌, ℕ, List, length, map, IfOk, IfErr};
-ghost use Rattle.cts_model.specs.declared.circuit.Circuit as model;
-ghost use Rattle.cts_model.specs.text.PrintedLines.{Words, count_line};
-ghost use Rattle.report_text.specs.declared.form.Form as forms;
-ghost use Rattle.report_text.specs.declared.form.Form.TheVariants as form;
-ghost use Rattle.report_text.specs.declared.form.Scale as scales;
-ghost use Rattle.report_text.specs.Keywords.{keyword_text};
+ghost use Rattle.report_text.specs.Vocabulary.{◌≡◌, ◌≢◌, ◌<◌, ℕ, List, length, map, IfOk, IfErr, Words, count_line, keyword_text, fault_of, unknown_on, words_of, ReadsForm, DenotesLine, HasNoLine, ReadsLine, StopsLine, TakesLine, Circuit, Form, Scale};
 ghost use Rattle.report_text.specs.declared.fault.ReportFault.TheVariants as faults;
-ghost use Rattle.report_text.specs.ReportFaults.{fault_of, unknown_on, words_of};
-ghost use Rattle.report_text.specs.Scans.{ReadsForm};
-ghost use Rattle.report_text.specs.Walks.{DenotesLine, HasNoLine, ReadsLine, StopsLine, TakesLine};
+ghost use Rattle.report_text.specs.declared.form.Form.TheVariants as form;
 
 use crate::cursor::{Cursor, words_of};
 use crate::fault::ReportFault;
@@ -24,10 +16,10 @@ use std::alloc::Global;
 /// What a line of a report says. Lines of one form may be numbered.
 pub(crate) trait Line: Drop {
     /// The form of a line of that number.
-    ghost due: { ℕ → forms.Form };
+    ghost due: { ℕ → Form };
 
     /// The words of a line of that number say this.
-    ghost says: { model.Circuit → scales.Scale → ℕ → Words → Self → Type 0 };
+    ghost says: { Circuit → Scale → ℕ → Words → Self → Type 0 };
 
     /// The form that is due at a number.
     fn form(number: u32) -> Form

@@ -1,21 +1,15 @@
 //! The parts of a whole report.
 
-ghost use Rattle.std.specs.Prelude.{◌≡◌, ◌≢◌, ◌<◌, ◌==◌, ℕ, List, [], length, None, Some, IfOk, IfErr, if◌then◌else◌};
-ghost use Rattle.cts_model.specs.declared.tech.Tech.{Tech};
-ghost use Rattle.report_text.specs.declared.fault.ReportFault.TheVariants as fault;
-ghost use Rattle.report_text.specs.Headings.{HasHeading, IsSmallCount};
-ghost use Rattle.report_text.specs.Parts.{HasParts, scale_in, whole};
-ghost use Rattle.report_text.specs.ReportFaults.{HasFault};
+ghost use Rattle.report_text.specs.Vocabulary.{◌≡◌, ◌≢◌, ◌<◌, ◌==◌, ℕ, List, [], length, None, Some, IfOk, IfErr, if◌then◌else◌, Tech, HasHeading, IsSmallCount, HasParts, scale_in, whole, HasFault, NoMemory, Extra};
 
 use crate::cursor::Cursor;
 use crate::fault::ReportFault;
-use crate::grid::scale_of;
-use crate::names::Names;
 use crate::reader::body::read_body;
 use crate::reader::heading::{read_heading, read_shown};
-use crate::rules::Rules;
+use crate::rules::{Rules, scale_of, signal_names};
 use crate::sections::{Heading, Parts};
 use cts_model::{Circuit, Tech};
+use name_set::register_names;
 use std::alloc::Global;
 
 /// Reads all lines of a report.
@@ -26,17 +20,22 @@ pub(crate) fn read_parts(
     tech: &Tech,
 ) -> Result<Parts, ReportFault>
     ensures ok { IfOk result (HasParts circuit.now tech.now bytes.now) }
-    ensures fault { IfErr result (λ found. found ≢ fault.NoMemory
+    ensures fault { IfErr result (λ found. found ≢ NoMemory
         → HasFault circuit.now tech.now bytes.now (Some found)) }
 {
-    let names = Names::new(alloc, circuit)?;
-    read_named(Rules::new(alloc, circuit, &names), bytes, tech)
+    let registers = register_names(alloc, circuit)?;
+    let signals = signal_names(alloc, circuit)?;
+    read_named(
+        Rules::new(alloc, circuit, &registers, &signals),
+        bytes,
+        tech,
+    )
 }
 
 // Reads all lines by rules that know the names of the circuit.
 fn read_named(rules: Rules, bytes: &[u8], tech: &Tech) -> Result<Parts, ReportFault>
     ensures ok { IfOk result (HasParts rules.entry.circuit.now tech.now bytes.now) }
-    ensures fault { IfErr result (λ found. found ≢ fault.NoMemory
+    ensures fault { IfErr result (λ found. found ≢ NoMemory
         → HasFault rules.entry.circuit.now tech.now bytes.now (Some found)) }
 {
     let mut cursor = Cursor::of(bytes);
@@ -53,7 +52,7 @@ fn read_rest(rules: &Rules, heading: Heading, mut cursor: Cursor) -> Result<Part
         → HasHeading rules.now.circuit.now (whole text) cursor.entry heading
         → rules.now.scale ≡ scale_in tech heading.period
         → HasParts rules.now.circuit.now tech text parts) }
-    ensures fault { IfErr result (λ found. found ≢ fault.NoMemory → (tech : Tech) (text : List ℕ)
+    ensures fault { IfErr result (λ found. found ≢ NoMemory → (tech : Tech) (text : List ℕ)
         → HasHeading rules.now.circuit.now (whole text) cursor.entry heading
         → rules.now.scale ≡ scale_in tech heading.period
         → HasFault rules.now.circuit.now tech text (Some found)) }
@@ -72,7 +71,7 @@ fn read_rest(rules: &Rules, heading: Heading, mut cursor: Cursor) -> Result<Part
 fn at_end(cursor: &Cursor) -> Result<(), ReportFault>
     ensures ok { IfOk result (λ _. cursor.now.text ≡ []) }
     ensures fault { IfErr result (λ found. Some found
-        ≡ (if length cursor.now.text == 0 then None else Some (fault.Extra cursor.now.line))) }
+        ≡ (if length cursor.now.text == 0 then None else Some (Extra cursor.now.line))) }
 {
     if cursor.is_at_end() {
         Ok(())

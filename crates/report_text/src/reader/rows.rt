@@ -1,20 +1,13 @@
 //! Lines of one form, one after the other.
 
-ghost use Rattle.std.specs.Prelude.{◌<◌, ◌≤◌, ◌∷◌, IfOk, IfErr, map};
-ghost use Rattle.std.specs.List.{range_with_len};
-ghost use Rattle.cts_model.specs.declared.report.Version.TheVariants as version;
+ghost use Rattle.report_text.specs.Vocabulary.{◌<◌, ◌≤◌, ◌∷◌, IfOk, IfErr, map, range_with_len, cycle_forms, Counted, HasPathed, HasRows, Stops, Second};
 ghost use Rattle.report_text.specs.declared.form.Form.TheVariants as form;
-ghost use Rattle.report_text.specs.Forms.{cycle_forms};
-ghost use Rattle.report_text.specs.Rows.{Counted, HasPathed, HasRows};
-ghost use Rattle.report_text.specs.Walks.{Stops};
 
 use crate::cursor::Cursor;
 use crate::fault::ReportFault;
 use crate::field::Keyword;
 use crate::reader::line::{Line, read, read_count};
 use crate::rules::Rules;
-use crate::sections::{Pathed, no_cycle, push_pathed};
-use crate::timing_values::PathLine;
 use cts_base::Listed;
 use cts_model::Constraint;
 
@@ -67,19 +60,21 @@ pub(crate) fn read_pathed(
     rules: &Rules,
     count: u32,
     cursor: &mut Cursor,
-) -> Result<Pathed, ReportFault>
+) -> Result<(Listed<Constraint>, Listed<Listed<u32>>), ReportFault>
     requires line { cursor.old.line < 100000 }
     requires count { count ≤ 10000 }
     ensures ok { IfOk result (HasPathed rules.now.circuit.now rules.now.scale count
         cursor.old cursor.new) }
     ensures fault { IfErr result (Stops rules.now.circuit.now rules.now.scale
-        (cycle_forms version.Second count) cursor.old) }
+        (cycle_forms Second count) cursor.old) }
 {
-    let mut pathed = no_cycle(rules.alloc);
+    let mut cycle = Listed::new(rules.alloc);
+    let mut paths = Listed::new(rules.alloc);
     for _place in 0..count {
         let constraint: Constraint = read(rules, 0, cursor)?;
-        let path: PathLine = read(rules, 0, cursor)?;
-        push_pathed(&mut pathed, constraint, path.signals)?;
+        let path: Listed<u32> = read(rules, 0, cursor)?;
+        cycle.push(constraint)?;
+        paths.push(path)?;
     }
-    Ok(pathed)
+    Ok((cycle, paths))
 }

@@ -1,4 +1,4 @@
-use Rattle.report_text.proofs.Vocabulary.{false, true, w128, to_z-of_z}
+use Rattle.report_text.proofs.Vocabulary.{w128, to_z-of_z}
 use Rattle.report_text.proofs.ScanLemmas.{takes_then, constraint_taken}
 use Rattle.report_text.proofs.timing_values.read_constraint.Goals as goal
 

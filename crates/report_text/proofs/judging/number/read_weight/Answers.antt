@@ -1,4 +1,4 @@
-use Rattle.report_text.proofs.Vocabulary.{◌≡◌, ◌^◌, of_z, to_z, arith, w128, ints, IsBelow}
+use Rattle.report_text.proofs.Vocabulary.{arith, ints}
 use Rattle.report_text.proofs.NumberWords.{whole_read}
 use Rattle.report_text.proofs.SpelledFields.{size_below}
 use Rattle.report_text.proofs.judging.number.read_weight.Goals as goal

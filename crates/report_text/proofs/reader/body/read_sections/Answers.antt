@@ -5,21 +5,39 @@ use Rattle.report_text.proofs.RowLemmas.{counted_number, counted_read}
 use Rattle.report_text.proofs.WalkLemmas.{passed_on, read_more, read_none, stop_after, stop_line}
 use Rattle.report_text.proofs.reader.body.read_sections.Goals as goal
 
-pub read_leads-requires-clause-line : goal.read_leads-requires-clause-line
-read_leads-requires-clause-line c =
-    omega (arith, counted_number c.in_ok-timings.ensures.ok, c.requires.line, c.requires.few)
+pub read_rows-requires : goal.read_rows-requires
+read_rows-requires c =
+    let registers = counted_number c.in_ok-timings.ensures.ok in
+    record {
+      line = omega (arith, registers, c.requires.line, c.requires.few);
+      first = omega arith;
+      count = omega (arith, c.leads_in.ensures.few, c.requires.few);
+    }
 
 pub read_counted-requires-2-clause-line : goal.read_counted-requires-2-clause-line
 read_counted-requires-2-clause-line c =
-    let before = lines_before_merges c.in_ok-timings.ensures.ok c.in_ok-leads.ensures.ok in
+    let before = lines_before_merges c.args.version c.in_ok-timings.ensures.ok
+    (rw c.leads_in.ensures.value at c.in_ok-leads.ensures.ok) in
     omega (arith, before, c.requires.line, c.requires.few)
 
 pub read-requires : goal.read-requires
-read-requires c = search (arith, lines_before_merges, counted_number)
+read-requires c =
+    let before = lines_before_merges c.args.version c.in_ok-timings.ensures.ok
+    (rw c.leads_in.ensures.value at c.in_ok-leads.ensures.ok) in
+    record {
+      line = omega (
+        arith,
+        before,
+        counted_number c.in_ok-merged.ensures.ok,
+        c.requires.line,
+        c.requires.few,
+      );
+    }
 
 pub read_counted-requires-3-clause-line : goal.read_counted-requires-3-clause-line
 read_counted-requires-3-clause-line c =
-    let before = lines_before_merges c.in_ok-timings.ensures.ok c.in_ok-leads.ensures.ok in
+    let before = lines_before_merges c.args.version c.in_ok-timings.ensures.ok
+    (rw c.leads_in.ensures.value at c.in_ok-leads.ensures.ok) in
     let merged = counted_number c.in_ok-merged.ensures.ok in
     let source = c.in_ok-source.ensures.ok in
     let read = source.line.read c.args.rules.now.scale source.line.flawless in
@@ -27,7 +45,8 @@ read_counted-requires-3-clause-line c =
 
 pub read-requires-2 : goal.read-requires-2
 read-requires-2 c =
-    let before = lines_before_merges c.in_ok-timings.ensures.ok c.in_ok-leads.ensures.ok in
+    let before = lines_before_merges c.args.version c.in_ok-timings.ensures.ok
+    (rw c.leads_in.ensures.value at c.in_ok-leads.ensures.ok) in
     let merged = counted_number c.in_ok-merged.ensures.ok in
     let source = c.in_ok-source.ensures.ok in
     let read = source.line.read c.args.rules.now.scale source.line.flawless in
@@ -50,13 +69,13 @@ returns-in_err-leads-clause-fault c =
     (forms_after c.args.version count) (register_forms count) (lead_forms c.args.version count)
     (merge_forms count ++ form.Source ∷ node_forms count ++ form.Total ∷ [])
     (search (arith, append_assoc)) _ (counted_read c.in_ok-timings.ensures.ok)
-    c.in_err-leads.ensures.fault)
+    (rw c.leads_in.ensures.value at c.in_err-leads.ensures.fault))
 
 pub returns-in_err-merged-clause-fault : goal.returns-in_err-merged-clause-fault
 returns-in_err-merged-clause-fault c =
     let count = c.args.count in
     let leads = read_more (counted_read c.in_ok-timings.ensures.ok)
-    (lead_forms c.args.version count) _ _ c.in_ok-leads.ensures.ok.read in
+    (lead_forms c.args.version count) _ _ (rw c.leads_in.ensures.value at c.in_ok-leads.ensures.ok).read in
     passed_on _ _ _ c.from_residual-in_err-merged.ensures.1 (stops_within
     (forms_after c.args.version count) (register_forms count ++ lead_forms c.args.version count)
     (merge_forms count) (form.Source ∷ node_forms count ++ form.Total ∷ [])
@@ -66,7 +85,7 @@ pub returns-in_err-source-clause-fault : goal.returns-in_err-source-clause-fault
 returns-in_err-source-clause-fault c =
     let count = c.args.count in
     let leads = read_more (counted_read c.in_ok-timings.ensures.ok)
-    _ _ _ c.in_ok-leads.ensures.ok.read in
+    _ _ _ (rw c.leads_in.ensures.value at c.in_ok-leads.ensures.ok).read in
     let merged = read_more leads _ _ _ (counted_read c.in_ok-merged.ensures.ok) in
     passed_on _ _ _ c.from_residual-in_err-source.ensures.1
     (stops_within (forms_after c.args.version count)
@@ -79,7 +98,7 @@ pub returns-in_err-placed-clause-fault : goal.returns-in_err-placed-clause-fault
 returns-in_err-placed-clause-fault c =
     let count = c.args.count in
     let leads = read_more (counted_read c.in_ok-timings.ensures.ok)
-    _ _ _ c.in_ok-leads.ensures.ok.read in
+    _ _ _ (rw c.leads_in.ensures.value at c.in_ok-leads.ensures.ok).read in
     let merged = read_more leads _ _ _ (counted_read c.in_ok-merged.ensures.ok) in
     let source = c.in_ok-source.ensures.ok.line.read c.args.rules.now.scale
     c.in_ok-source.ensures.ok.line.flawless in
@@ -89,7 +108,7 @@ returns-in_err-placed-clause-fault c =
 pub returns-in_err-total-clause-fault : goal.returns-in_err-total-clause-fault
 returns-in_err-total-clause-fault c =
     let leads = read_more (counted_read c.in_ok-timings.ensures.ok)
-    _ _ _ c.in_ok-leads.ensures.ok.read in
+    _ _ _ (rw c.leads_in.ensures.value at c.in_ok-leads.ensures.ok).read in
     let merged = read_more leads _ _ _ (counted_read c.in_ok-merged.ensures.ok) in
     let source = c.in_ok-source.ensures.ok.line.read c.args.rules.now.scale
     c.in_ok-source.ensures.ok.line.flawless in
@@ -97,3 +116,6 @@ returns-in_err-total-clause-fault c =
     (read_more source _ _ _ (counted_read c.in_ok-placed.ensures.ok))) (form.Total ∷ []) _
     (stop_line c.args.rules.now.circuit.now c.args.rules.now.scale form.Total
     c.read_counted-3.new.cursor _ c.in_err-total.ensures.fault))
+
+pub returns-clause-ok : goal.returns-clause-ok
+returns-clause-ok c = search (arith, rw c.leads_in.ensures.value at c.in_ok-leads.ensures.ok)

@@ -1,4 +1,4 @@
-use Rattle.report_text.proofs.Vocabulary.{Some, length, subst, arith, forms_after, Stops}
+use Rattle.report_text.proofs.Vocabulary.{length, subst, arith, forms_after, Stops}
 use Rattle.report_text.proofs.BodyLemmas.{body_ends}
 use Rattle.report_text.proofs.PartLemmas.{after_fault, body_fault, cycle_few, shown_fault}
 use Rattle.report_text.proofs.WalkLemmas.{passed_on}

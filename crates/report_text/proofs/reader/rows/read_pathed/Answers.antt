@@ -35,4 +35,4 @@ returns-in_err-path-clause-fault c =
 pub loop-place-preserved : goal.loop-place-preserved
 loop-place-preserved c =
     pathed_next _ _ _ _ _ c.loop-place.invariant c.in_ok-constraint.ensures.ok
-    c.in_ok-path.ensures.ok c.in_ok-push_pathed.ensures.cycle c.in_ok-push_pathed.ensures.paths
+    c.in_ok-path.ensures.ok c.in_ok-push.ensures.ok c.in_ok-push-2.ensures.ok

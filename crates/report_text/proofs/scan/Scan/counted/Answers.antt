@@ -1,4 +1,4 @@
-use Rattle.report_text.proofs.Vocabulary.{◌≤◌, pos, signed_decimal, arith}
+use Rattle.report_text.proofs.Vocabulary.{◌≤◌, pos, signed_decimal}
 use Rattle.report_text.proofs.ScanLemmas.{takes_word}
 use Rattle.report_text.proofs.scan.Scan.counted.Goals as goal
 

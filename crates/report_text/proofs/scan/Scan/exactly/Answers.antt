@@ -1,4 +1,4 @@
-use Rattle.report_text.proofs.Vocabulary.{pos, signed_decimal, arith}
+use Rattle.report_text.proofs.Vocabulary.{pos, signed_decimal}
 use Rattle.report_text.proofs.ScanLemmas.{takes_text}
 use Rattle.report_text.proofs.scan.Scan.exactly.Goals as goal
 

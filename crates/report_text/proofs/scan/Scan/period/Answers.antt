@@ -1,4 +1,4 @@
-use Rattle.report_text.proofs.Vocabulary.{fraction_text, IsSmallPeriod, arith}
+use Rattle.report_text.proofs.Vocabulary.{fraction_text, IsSmallPeriod}
 use Rattle.report_text.proofs.ScanLemmas.{takes_word}
 use Rattle.report_text.proofs.scan.Scan.period.Goals as goal
 

@@ -1,4 +1,4 @@
-use Rattle.report_text.proofs.Vocabulary.{w128, to_z-of_z, slack_text, IsSmallSlack, slack_field}
+use Rattle.report_text.proofs.Vocabulary.{w128, to_z-of_z, slack_text, IsSmallSlack}
 use Rattle.report_text.proofs.NumberWords.{fits}
 use Rattle.report_text.proofs.ScanLemmas.{takes_word}
 use Rattle.report_text.proofs.scan.Scan.slack.Goals as goal

@@ -1,4 +1,4 @@
-use Rattle.report_text.proofs.Vocabulary.{◌^◌, pos, w128, to_z-of_z, quotient_text, IsBelow}
+use Rattle.report_text.proofs.Vocabulary.{◌^◌, w128, to_z-of_z, quotient_text, IsBelow}
 use Rattle.report_text.proofs.NumberWords.{fits}
 use Rattle.report_text.proofs.ScanLemmas.{takes_word}
 use Rattle.report_text.proofs.scan.Scan.total.Goals as goal

@@ -1,6 +1,6 @@
 use Rattle.report_text.proofs.Vocabulary.{◌++◌, ◌∷◌, [], sym, ap, ◌∙◌, arith, map-range_with_len_more, signal_name}
 use Rattle.report_text.proofs.NameNumbers.{signal_new, signals_few}
-use Rattle.report_text.proofs.names.signal_names.Goals as goal
+use Rattle.report_text.proofs.rules.signal_names.Goals as goal
 
 pub push-requires-clause-new : goal.push-requires-clause-new
 push-requires-clause-new c = search (arith, signal_new)

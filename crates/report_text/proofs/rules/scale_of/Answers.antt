@@ -1,6 +1,6 @@
 use Rattle.report_text.proofs.Vocabulary.{◌^◌, ◌∙◌, sym, subst, arith, HasSizeBelow, held_same}
 use Rattle.report_text.proofs.SpelledFields.{scale_small}
-use Rattle.report_text.proofs.grid.scale_of.Goals as goal
+use Rattle.report_text.proofs.rules.scale_of.Goals as goal
 
 pub returns-clause-value : goal.returns-clause-value
 returns-clause-value c =
