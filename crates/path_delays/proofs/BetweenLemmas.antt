@@ -27,10 +27,6 @@ get_last xs x place last =
     ∙ ap Some (get_or_push xs x x place (sym last))
 
 module _ (circuit : Circuit) (tech : Tech) where
-  -- no delays of no pairs
-  pub between_none : AreDelaysBetween circuit tech [] []
-  between_none = grind (arith, slice_get_within)
-
   -- one pair more
   pub between_push : (pairs : List (ℕ × ℕ)) (pair : ℕ × ℕ) (delays : List (Option PairDelay))
       (joined : Option PairDelay) → IsJoinedBy circuit tech pair.0 pair.1 joined

@@ -1,5 +1,5 @@
 -- What registers capture: from the pairs, register by register, to the groups by signal.
-use Rattle.path_delays.proofs.Vocabulary.{ℕ, ◌≡◌, ◌<◌, ◌≤◌, ◌+◌, ◌*◌, Bool, true, false, cond, IsTrue, List, [], ◌++◌, length, map, get_or, All, Contains, Option, Some, None, refl, subst, arith, inl, inr, slice_get, option_and_then, cases_lt, length-append, length-map, All-nil, All-map, All-append, All-contains, All-contains_itself, Contains-append_left, Contains-append_right, slice_get_within, get_or_from_slice_get, Kind, And, Nand, Or, Nor, Not, Xor, Xnor, Buff, Input, Dff, Host, Signal, Circuit, is_host, is_valid, has_host, register_signal, Captures, Groups, group_of, HasGroups, has_number, AreInserted, AreCapturedBy, AreAllCaptures, AreCapturersOf, AreCapturedBelow}
+use Rattle.path_delays.proofs.Vocabulary.{ℕ, ◌≡◌, ◌<◌, ◌≤◌, ◌+◌, ◌*◌, Bool, true, false, cond, IsTrue, List, ◌++◌, length, map, get_or, All, Contains, Option, Some, None, refl, subst, arith, inl, inr, slice_get, option_and_then, cases_lt, length-append, length-map, All-map, All-append, All-contains, All-contains_itself, Contains-append_left, Contains-append_right, slice_get_within, get_or_from_slice_get, Kind, And, Nand, Or, Nor, Not, Xor, Xnor, Buff, Input, Dff, Host, Signal, Circuit, is_host, is_valid, has_host, register_signal, Captures, Groups, group_of, HasGroups, has_number, AreInserted, AreCapturedBy, AreAllCaptures, AreCapturersOf, AreCapturedBelow}
 use Rattle.std.proofs.lemmas.Bool.Decides.{nat_tests}
 use Rattle.path_delays.proofs.ReachedPairs.{captured_within}
 use Rattle.path_delays.proofs.NetworkLemmas.{Contains-map, Contains-values_at, All-values_at, distinct_length-le}
@@ -56,10 +56,6 @@ module _ (circuit : Circuit) where
           → length signal.fan_in ≤ 65537
       at None found = cc found
       at (Some number) found = by number found (is_host signal.kind) refl
-
-  -- no registers capture nothing
-  pub no_captures : AreAllCaptures circuit 0 []
-  no_captures = grind (arith, All-nil)
 
   -- one register more
   pub captures_more : (register : ℕ) (pairs : List (ℕ × ℕ)) (captured : List ℕ)

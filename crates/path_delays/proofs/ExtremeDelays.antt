@@ -21,17 +21,13 @@ through_by greatest circuit tech (gate ∷ gates) =
 greatest_is : (circuit : Circuit) (tech : Tech) (gates : List ℕ)
     → greatest_through circuit tech gates ≡ through_by true circuit tech gates
 greatest_is circuit tech [] = refl
-greatest_is circuit tech (gate ∷ gates) =
-    ap (λ n. greatest_gate_delay tech (slice_get circuit.signals gate) +ℤ n)
-    (greatest_is circuit tech gates)
+greatest_is circuit tech (gate ∷ gates) = grind (arith)
 
 -- and so do the least
 least_is : (circuit : Circuit) (tech : Tech) (gates : List ℕ)
     → least_through circuit tech gates ≡ through_by false circuit tech gates
 least_is circuit tech [] = refl
-least_is circuit tech (gate ∷ gates) =
-    ap (λ n. least_gate_delay tech (slice_get circuit.signals gate) +ℤ n)
-    (least_is circuit tech gates)
+least_is circuit tech (gate ∷ gates) = grind (arith)
 
 -- a path's delay is that of its register and those of its gates
 pub delay_is : (greatest : Bool) (circuit : Circuit) (tech : Tech) (first : ℕ) (gates : List ℕ)

@@ -1,5 +1,5 @@
 -- Sums handed to one gate after the other.
-use Rattle.path_delays.proofs.Vocabulary.{◌≡◌, ◌≢◌, ◌<◌, ℕ, true, false, length, Some, List, [], ◌∷◌, ◌++◌, refl, sym, ap, subst, arith, IsSome, if◌then◌else◌, option_map, eq-eqb, ne_eqb, get_or_from_slice_get, same_Some, slice_get-get_or, Lanes, Network, Reach, NumberSet, Sums, merged_sums, no_sums, sums_through, has_number, IsInserted, AllBounded, lane_of, GetsSums, row_at, rows_of, table_limit, delay_at, lane_at, lanes_at, rank_at, HasReachRoom, IsSameRoom, IsHanded, IsMarked, IsOpened, AreHanded}
+use Rattle.path_delays.proofs.Vocabulary.{◌≡◌, ◌≢◌, ◌<◌, ℕ, true, false, length, Some, List, [], ◌∷◌, ◌++◌, refl, sym, subst, arith, IsSome, if◌then◌else◌, eq-eqb, ne_eqb, get_or_from_slice_get, same_Some, slice_get-get_or, Lanes, Network, Reach, NumberSet, Sums, merged_sums, no_sums, sums_through, has_number, IsInserted, AllBounded, lane_of, GetsSums, row_at, rows_of, table_limit, delay_at, lane_at, lanes_at, rank_at, HasReachRoom, IsSameRoom, IsHanded, IsMarked, IsOpened, AreHanded}
 use Rattle.std.specs.Prelude.{◌==◌}
 use Rattle.path_delays.specs.declared.lane_table.LaneTable.{LaneTable}
 use Rattle.path_delays.proofs.LaneLemmas.{some_is}
@@ -35,9 +35,7 @@ row_bounded reach signal limit reached small =
 lane_there : (reach : Reach) (lane signal : ℕ) → has_number reach.reached.words.items signal ≡ true
     → signal < length (rows_of reach.lanes)
     → lane_at reach lane signal ≡ Some (lane_of (row_at (rows_of reach.lanes) signal) lane)
-lane_there reach lane signal reached inside = rw reached
-    (ap (option_map (λ (lanes : Lanes). lane_of lanes lane))
-    (slice_get-get_or (rows_of reach.lanes) signal _ inside))
+lane_there reach lane signal reached inside = grind (arith, slice_get-get_or)
 
 -- where a signal is reached and gets sums, they stand there, and all else stays
 module _ (old new : Reach) (signal : ℕ) (sums : ℕ → Sums)

@@ -26,12 +26,7 @@ bounded_higher limit higher sums more bounded = grind (arith, ints, clamps, with
 -- nothing is there after a delay more where nothing was
 missing_through : (limit more higher : ℕ) (sums delay : Sums) → limit + more ≤ higher
     → AreMissing limit sums → AreWithin more delay → AreMissing higher (sums_through sums delay)
-missing_through limit more higher sums delay room missing small = record {
-  least_above = omega (arith, ints, missing.least_above, small.least.above);
-  least_below = omega (arith, ints, missing.least_below, small.least.below);
-  greatest_above = omega (arith, ints, missing.greatest_above, small.greatest.above);
-  greatest_below = omega (arith, ints, missing.greatest_below, small.greatest.below);
-}
+missing_through limit more higher sums delay room missing small = search (arith, ints)
 
 -- a delay more keeps within a limit that is higher by so much
 pub bounded_through : (limit more higher : ℕ) (sums delay : Sums) → limit + more ≤ higher
@@ -58,17 +53,7 @@ pub bounded_joined : (limit : ℕ) (known : Option Sums) (sums : Sums)
     → ((old : Sums) → known ≡ Some old → AreBounded limit old) → AreBounded limit sums
     → AreBounded limit (joined_sums known sums)
 bounded_joined limit None sums before bounded = bounded
-bounded_joined limit (Some old) sums before bounded = elim (before old refl) [
-  | inl was ↦ elim bounded [
-    | inl within ↦ inl (within_joined limit (Some old) sums
-        (λ entry same. subst (AreWithin limit) (same_Some old entry same) was) within)
-    | inr missing ↦ inl (within_merged limit old sums was missing).0
-  ]
-  | inr was ↦ elim bounded [
-    | inl within ↦ inl (within_merged limit sums old within was).1
-    | inr missing ↦ inr (missing_merged limit old sums was missing)
-  ]
-]
+bounded_joined limit (Some old) sums before bounded = search (arith, within_joined, same_Some, within_merged, missing_merged)
 
 -- sums that are there stay as they are when they are merged with missing ones
 merged_same : (limit : ℕ) (some none : Sums) → limit ≤ delay_limit → AreWithin limit some

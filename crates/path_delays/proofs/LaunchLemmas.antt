@@ -50,9 +50,7 @@ launched_at circuit from number launches = at (register_signal circuit from) lau
 -- so its number is that of a signal
 pub launched_within : (circuit : Circuit) (from number : ℕ) → Launches circuit from number
     → number < length circuit.signals
-launched_within circuit from number launches =
-    let found = launched_at circuit from number launches in
-    slice_get_within circuit.signals number found.0 found.1
+launched_within circuit from number launches = grind (arith, launched_at, slice_get_within)
 
 -- and its rank is 0
 pub launched_lowest : (circuit : Circuit) (from number : ℕ) (order ranks : List ℕ)
@@ -78,9 +76,7 @@ register_launches circuit from register here host number =
 pub inputs_launched : (circuit : Circuit) (from : ℕ) (inputs : List ℕ) (register : Signal)
     → register_signal circuit from ≡ Some register → is_host register.kind ≡ true
     → AreInputs circuit inputs → AreLaunchedBy circuit from inputs
-inputs_launched circuit from inputs register here host are number =
-    let launches = host_launches circuit from register here host number in
-    (λ listed. launches.1 ((are number).0 listed), λ launched. (are number).1 (launches.0 launched))
+inputs_launched circuit from inputs register here host are number = grind (arith, host_launches)
 
 -- and any other register its own signal alone
 pub own_launched : (circuit : Circuit) (from : ℕ) (register : Signal)

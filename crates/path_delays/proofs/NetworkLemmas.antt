@@ -85,9 +85,7 @@ reader_within signals gate read reads =
 pub Contains-values_at : (pairs : List (ℕ × ℕ)) (key value : ℕ) → Contains pairs (key, value)
     → Contains (values_at pairs key) value
 Contains-values_at [] key value (k, inside, here) = absurd (omega arith)
-Contains-values_at (pair ∷ pairs) key value (zero, inside, here) =
-    let passes : (pair.0 == key) ≡ true = eq-eqb pair.0 key (ap (λ (p : ℕ × ℕ). p.0) here) in
-    rw passes (zero, omega arith, ap (λ (p : ℕ × ℕ). p.1) here)
+Contains-values_at (pair ∷ pairs) key value (zero, inside, here) = grind (arith, eq-eqb)
 Contains-values_at (pair ∷ pairs) key value (suc k, inside, here) =
     at (pair.0 == key) (Contains-values_at pairs key value (k, omega arith, here))
   where

@@ -55,9 +55,7 @@ captures_furthest circuit to captured found walk lane greatest last furthest = g
 pub captures_within : (circuit : Circuit) (to : ℕ) (captured : Signal)
     → register_signal circuit to ≡ Some captured → (signal : ℕ) → Captures circuit to signal
     → signal < length circuit.signals
-captures_within circuit to captured found signal captures =
-    let listed = rw found at captures in
-    rw listed.2 at (captured_within circuit to captured found listed.0 signal listed.1)
+captures_within circuit to captured found signal captures = grind (arith, captured_within)
 
 -- from a signal on, the path to the last one, whose sums are those of the signal and what the gates
 -- after it add

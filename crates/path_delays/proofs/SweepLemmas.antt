@@ -1,5 +1,5 @@
 -- The sweep over the signals: what registers launch, then gate after gate, then what is captured.
-use Rattle.path_delays.proofs.Vocabulary.{◌≡◌, ◌+◌, ◌*◌, ◌^◌, ◌<◌, ◌⊎◌, ℕ, ℤ, pos, ◌+ℤ◌, ◌*ℤ◌, true, IsTrue, List, [], ◌∷◌, ◌++◌, length, take, set, get_or, replicate, All, Contains, Option, Some, None, inl, inr, refl, sym, ◌∙◌, ap, subst, arith, nat_abs, slice_get, IfSome, option_map, cases_eq, cases_lt, ints, length-replicate, get_or-replicate, get_or_past, length-set, get_or-set_same, get_or-set_other, get_or-take, length-take-le, take_more, take_all, Contains-get_or, Contains-push_cases, same_Some, slice_get_within, slice_get_read, slice_get-get_or, get_or_from_slice_get, Signal, Circuit, Tech, least_through, greatest_through, is_gate, is_valid, IsGate, Reads, Launches, Captures, IsTopologicalOrder, IsGate-from_Reads, gate_within, Sums, Window, along, AreExtremesIfAny, AreLaunchedBy, AreShownBy, Comes, IsJoinedAt, StandsAt, gate_sums_at, gate_sums, AreAround, sums_through, window_along, IsHullIfAny, IsWindowBelow, ComesTo, AreWindows, window_after, either_window, window_at, AreBelow, IsGateWindow, AreCaptures, BegunTo, start_window, window_limit, sums_of, sums_in, scaled_delay, AreSwept, StartsBelow, NoneHanded, HandedToPassed, AreLaunched, ArePassed}
+use Rattle.path_delays.proofs.Vocabulary.{◌≡◌, ◌+◌, ◌*◌, ◌^◌, ◌<◌, ◌⊎◌, ℕ, ℤ, pos, ◌+ℤ◌, ◌*ℤ◌, true, IsTrue, List, [], ◌∷◌, ◌++◌, length, take, set, get_or, replicate, All, Contains, Option, Some, None, inl, inr, refl, sym, ◌∙◌, ap, subst, arith, nat_abs, slice_get, IfSome, option_map, cases_eq, cases_lt, ints, length-replicate, get_or-replicate, get_or_past, length-set, get_or-set_same, get_or-set_other, get_or-take, length-take-le, take_more, take_all, Contains-get_or, Contains-push_cases, same_Some, slice_get_within, slice_get_read, slice_get-get_or, get_or_from_slice_get, Signal, Circuit, Tech, least_through, greatest_through, is_gate, is_valid, Reads, Launches, Captures, IsTopologicalOrder, IsGate-from_Reads, gate_within, Sums, Window, along, AreExtremesIfAny, AreLaunchedBy, AreShownBy, Comes, IsJoinedAt, StandsAt, gate_sums_at, gate_sums, AreAround, sums_through, window_along, IsHullIfAny, IsWindowBelow, ComesTo, AreWindows, window_after, either_window, window_at, AreBelow, IsGateWindow, AreCaptures, BegunTo, start_window, window_limit, sums_of, sums_in, scaled_delay, AreSwept, StartsBelow, NoneHanded, HandedToPassed, AreLaunched, ArePassed}
 use Rattle.cts_model.specs.declared.schedule.Schedule.{Schedule}
 use Rattle.cts_model.specs.timing.Schedules.{arrival_of}
 use Rattle.path_delays.proofs.CarryLemmas.{IsHandedBy, carried_end, carried_joined, carried_none, carried_same, extremes_of_extremes, gate_around, gate_shown, listed_next, shown_start}
@@ -28,9 +28,7 @@ pub record IsReadGate (circuit : Circuit) (order : List ℕ) (place gate : ℕ)
 pub next_within : (circuit : Circuit) (order gates : List ℕ) (place : ℕ)
     → IsTopologicalOrder circuit.signals order → gates ≡ order → place < length gates
     → get_or gates place 0 < length circuit.signals
-next_within circuit order gates place sorted same low =
-    gate_within circuit.signals (get_or gates place 0)
-    (subst (λ l. All (IsGate circuit.signals) l) (sym same) sorted.gates place 0 low)
+next_within circuit order gates place sorted same low = grind (arith, gate_within)
 
 -- and is a gate
 pub next_read : (circuit : Circuit) (order gates : List ℕ) (signals : List Signal) (place : ℕ)

@@ -65,9 +65,7 @@ marked_bounded old new lane signal sums within marked before given here other lo
 -- what a register starts with is within the limit
 pub start_bounded : (network : Network) (reach : Reach) (tech : Tech) → HasReachRoom network reach
     → AreWithin (limit_of reach) (start_sums tech)
-start_bounded network reach tech room = within_higher 1000000 (limit_of reach) (start_sums tech)
-    (omega (arith, room.total))
-    (record { least = tech.valid.least_within; greatest = tech.valid.greatest_within })
+start_bounded network reach tech room = grind (arith, within_higher)
 
 -- nothing is listed in an empty list
 none_listed : (one : ℕ) → Contains [] one → ⊥

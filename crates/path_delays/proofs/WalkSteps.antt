@@ -1,6 +1,6 @@
 -- A walk that takes the gates by rank and hands their sums to their readers, one step after the
 -- other.
-use Rattle.path_delays.proofs.Vocabulary.{◌≡◌, ◌≢◌, ◌+◌, ◌-◌, ◌<◌, ◌≤◌, ◌==◌, ◌&&◌, not, ℕ, suc, Bool, true, false, List, [], ◌∷◌, ◌++◌, length, get_or, Contains, Option, Some, None, inl, inr, ◌⊎◌, refl, sym, ◌∙◌, ap, subst, arith, append-nil, append_assoc, is_none, IsSome, option_and_then, option_map, cases_eq, cases_lt, eqb-true, eq-eqb, ne_eqb, and_parts, or_cases, or_left, or_right, true≢false, Contains-push_cases, same_Some, get_or_from_slice_get, Circuit, Tech, IsGate, Reads, group_of, IsGate-from_Reads, gate_within, Lanes, Sums, Network, Reach, IsJoinedAt, gate_sums_at, AllBounded, lane_of, AreAround, AreBounded, either_sums, joined_sums, some_sums, sums_through, IsLowestTaken, IsNetworkOf, limit_at, limit_of, most_at, rank_at, lane_at, lanes_at, sums_at, waits_at, HasReachRoom, IsHanded, AreHanded, IsHandedOn, AllBelow, AllBelowBut, IsDue, IsSpread, StartsIn}
+use Rattle.path_delays.proofs.Vocabulary.{◌≡◌, ◌≢◌, ◌+◌, ◌-◌, ◌<◌, ◌≤◌, ◌==◌, ◌&&◌, not, ℕ, suc, Bool, true, false, List, [], ◌∷◌, ◌++◌, length, get_or, Contains, Option, Some, None, inl, inr, ◌⊎◌, refl, sym, ◌∙◌, ap, subst, arith, append-nil, append_assoc, IsSome, option_and_then, option_map, cases_eq, cases_lt, eqb-true, eq-eqb, ne_eqb, and_parts, or_cases, or_left, or_right, true≢false, Contains-push_cases, same_Some, get_or_from_slice_get, Circuit, Tech, IsGate, Reads, group_of, IsGate-from_Reads, gate_within, Lanes, Sums, Network, Reach, IsJoinedAt, gate_sums_at, AllBounded, lane_of, AreAround, AreBounded, either_sums, joined_sums, some_sums, sums_through, IsLowestTaken, IsNetworkOf, limit_at, limit_of, most_at, rank_at, lane_at, lanes_at, sums_at, waits_at, HasReachRoom, IsHanded, AreHanded, IsHandedOn, AllBelow, AllBelowBut, IsDue, IsSpread, StartsIn}
 use Rattle.path_delays.proofs.CarryLemmas.{IsHandedBy, carried_joined, carried_same, shown_passed}
 use Rattle.path_delays.proofs.SumLemmas.{around_itself}
 use Rattle.path_delays.proofs.LaneLemmas.{bounded_higher, bounded_joined, bounded_through, some_joined, some_mapped, some_through, lanes_there}
@@ -71,9 +71,7 @@ module _ (circuit : Circuit) (tech : Tech) (network : Network)
     joined lane = joined_sums (lane_at old lane gate) (through lane)
 
     at_gate : (lane : ℕ) → lane < 16 → lane_at new lane gate ≡ Some (joined lane)
-    at_gate lane low = subst (λ (own : Sums). lane_at new lane gate
-        ≡ Some (joined_sums (lane_at old lane gate) (sums_through (lane_of given lane) own)))
-        (delay_is circuit tech network is gate is_one) (hands.at lane low)
+    at_gate lane low = grind (arith, delay_is)
 
     given_at : (lane : ℕ) → lane_at old lane pending ≡ Some (lane_of given lane)
     given_at lane = ap (option_map (λ (lanes : Lanes). lane_of lanes lane)) held
@@ -177,9 +175,7 @@ module _ (circuit : Circuit) (tech : Tech) (network : Network)
 
     -- what waited waits
     still_waits : (number : ℕ) → waits_at old number ≡ true → waits_at new number ≡ true
-    still_waits number waits = hands.waits number
-        ∙ or_right (is_none (lanes_at old gate) && (number == rank_at network gate))
-        (waits_at old number) waits
+    still_waits number waits = grind (arith, or_right)
 
     -- what waits waited, or is the gate's rank
     waited : (number : ℕ) → waits_at new number ≡ true

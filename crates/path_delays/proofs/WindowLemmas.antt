@@ -58,9 +58,7 @@ pub below_either : (bound : ℕ) (known found : Option Window) (window : Window)
     → either_window known found ≡ Some window → IsWindowBelow bound window
 below_either bound None found window before now is = now window is
 below_either bound (Some known) None window before now is = before window is
-below_either bound (Some known) (Some found) window before now is = subst (IsWindowBelow bound)
-    (same_Some (merged_windows known found) window is)
-    (merged_below bound known found (before known refl) (now found refl))
+below_either bound (Some known) (Some found) window before now is = grind (arith, same_Some, merged_below)
 
 -- what stands as sums is that of a window
 window_there : (known : Option Window) (sums : Sums) → option_map sums_of known ≡ Some sums

@@ -36,7 +36,7 @@ pub(crate) struct Capture {
     pub(crate) register: u32,
     /// The signal, if it is a single one and the walk reached it.
     pub(crate) single: Option<u32>,
-    /// Whether the walk may have found anything in each lane.
+    /// False only in lanes in which the walk found nothing.
     pub(crate) lanes: [bool; 16],
 }
 

@@ -117,6 +117,9 @@ fn push_pairs_from(
         → ShowsTooMany circuit.now fault) }
 {
     for capture in captures {
+        if !capture.lanes[lane] {
+            continue;
+        }
         push_found(pairs, walk, circuit, lane, from, capture)?;
     }
     Ok(())
@@ -145,9 +148,6 @@ fn push_found(
         → ListsPairsBefore circuit.now tech from capture.now.register pairs.old.items
         → ShowsTooMany circuit.now fault) }
 {
-    if !capture.lanes[lane] {
-        return Ok(());
-    }
     let to = capture.register;
     match capture.single {
         Some(signal) => push_joined(pairs, joined_pair(from, to, walk.held_sums(lane, signal))),

@@ -98,7 +98,8 @@ impl Walk {
         self.reach.reached.contains(signal)
     }
 
-    /// The sums to a signal that some register reaches from the one in a lane, likewise.
+    /// The sums to a signal that some register reaches, from the one in a lane, `None` where that
+    /// one doesn't reach it.
     pub(crate) fn held_sums(&self, lane: usize, signal: u32) -> Option<Sums>
         requires lane { lane < 16 }
         requires held { IsTrue (has_number self.now.reach.reached.words.items signal) }

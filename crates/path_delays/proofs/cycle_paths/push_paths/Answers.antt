@@ -33,6 +33,4 @@ loop-lane-preserved c =
     }
 
 pub returns-clause-paths : goal.returns-clause-paths
-returns-clause-paths c = keeps_all c.args.circuit.now c.args.tech.now c.args.block.now
-    c.args.room c.args.paths.now c.loop-lane.lane c.loop-lane.left c.loop-lane.paths
-    (omega (arith, c.loop-lane-test.false)) c.loop-lane.invariant.keeps
+returns-clause-paths c = grind (arith, keeps_all)

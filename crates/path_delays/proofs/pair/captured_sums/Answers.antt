@@ -5,9 +5,7 @@ use Rattle.path_delays.proofs.CapturingLemmas.{single_list}
 use Rattle.path_delays.proofs.pair.captured_sums.Goals as goal
 
 pub returns-in-len1 : goal.returns-in-len1
-returns-in-len1 c =
-    rw (c.sums.ensures, single_list c.args.signals.now c.in-len1.len_at_least c.in-len1.len_below)
-    (extremes_single (sums_to c.args.walk.now c.args.lane) (get_or c.args.signals.now 0 0))
+returns-in-len1 c = grind (arith, single_list, extremes_single)
 
 pub loop-signal-init : goal.loop-signal-init
 loop-signal-init c = λ one (signal, (place, within, here), stands). absurd (omega arith)

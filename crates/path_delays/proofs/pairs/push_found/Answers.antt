@@ -1,18 +1,10 @@
 -- What the walk found at what the register captures are the delays between the two.
-use Rattle.path_delays.proofs.Vocabulary.{◌∷◌, [], None, sym, append-nil, IfErr-weaker, on_ok_weaker, Tech, IsJoinedBy, HasReach, sums_to}
-use Rattle.path_delays.proofs.CapturingLemmas.{missed_path}
+use Rattle.path_delays.proofs.Vocabulary.{◌∷◌, [], IfErr-weaker, on_ok_weaker, Tech, IsJoinedBy, HasReach, sums_to}
 use Rattle.path_delays.proofs.CarryLemmas.{extremes_single}
 use Rattle.path_delays.proofs.PairCounts.{shows_too_many}
 use Rattle.path_delays.proofs.PairWalk.{pair_next}
 use Rattle.path_delays.proofs.ReachedPairs.{captured_is_fan_in}
 use Rattle.path_delays.proofs.pairs.push_found.Goals as goal
-
-pub returns-then-not-capture-lane-clause-listed : goal.returns-then-not-capture-lane-clause-listed
-returns-then-not-capture-lane-clause-listed c tech reach listed =
-    pair_next c.args.circuit.now tech c.args.from c.args.capture.now.register _ _ None
-    (missed_path c.args.circuit.now tech c.args.from c.args.lane c.args.walk.now
-    c.args.capture.now reach c.requires.capture c.requires.lane c.if-not-capture-lane.true)
-    (sym (append-nil c.args.pairs.now.items)) listed
 
 pub held_sums-requires-clause-held : goal.held_sums-requires-clause-held
 held_sums-requires-clause-held c = (c.requires.capture.single c.in-Some.signal c.in-Some.is).1

@@ -1,5 +1,7 @@
 -- What was found at one register of the list more.
-use Rattle.path_delays.proofs.Vocabulary.{◌≡◌, ◌+◌, ◌<◌, [], ℕ, List, None, length, get_or, arith, length-map, get_or-map, subst, err_from_is_err_and, ListsPairsBefore}
+use Rattle.path_delays.proofs.Vocabulary.{◌≡◌, ◌+◌, ◌<◌, [], ℕ, List, None, length, get_or, arith, length-map, get_or-map, subst, err_from_is_err_and, ListsPairsBefore, sym, append-nil}
+use Rattle.path_delays.proofs.CapturingLemmas.{missed_path}
+use Rattle.path_delays.proofs.PairWalk.{pair_next}
 use Rattle.path_delays.specs.declared.capturing.Capture.{Capture}
 use Rattle.path_delays.specs.Capturings.{registers_of}
 use Rattle.path_delays.proofs.PendingPairs.{passed_all, passed_here, passed_next}
@@ -36,6 +38,27 @@ returns-in_err-push_found-clause-many c =
     (register_at captures i c.loop-capture-test.true)
     (passed_here c.requires.registers c.loop-capture.invariant.1 tech c.loop-capture.pairs.items
     (c.loop-capture.invariant.2 tech reach listed) (omega (arith, as_many captures)))))
+
+pub loop-capture-preserved-then-not-capture-lane : goal.loop-capture-preserved-then-not-capture-lane
+loop-capture-preserved-then-not-capture-lane c =
+    let captures = c.args.captures.now in
+    let i = c.loop-capture.capture-index in
+    let pairs = c.loop-capture.pairs.items in
+    let capture = get_or captures i no_capture in
+    let inside : i < length (registers_of captures) = omega (arith, as_many captures) in
+    let same = register_at captures i c.loop-capture-test.true in (
+      get_or (registers_of captures) i 0 + 1,
+      passed_next c.requires.registers c.loop-capture.invariant.1 inside,
+      λ tech reach listed.
+          rw same
+          (pair_next c.args.circuit.now tech c.args.from capture.register pairs pairs None
+          (missed_path c.args.circuit.now tech c.args.from c.args.lane c.args.walk.now capture
+          reach (c.requires.captures i no_capture c.loop-capture-test.true) c.requires.lane
+          c.if-not-capture-lane.true) (sym (append-nil pairs)) (rw same at
+          (passed_here c.requires.registers c.loop-capture.invariant.1 tech pairs
+          (c.loop-capture.invariant.2 tech reach listed) inside))),
+      c.loop-capture.invariant.3,
+    )
 
 pub loop-capture-preserved : goal.loop-capture-preserved
 loop-capture-preserved c =

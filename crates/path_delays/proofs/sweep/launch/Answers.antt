@@ -5,9 +5,7 @@ use Rattle.path_delays.proofs.SweepLemmas.{begun_all, begun_next, begun_none}
 use Rattle.path_delays.proofs.sweep.launch.Goals as goal
 
 pub loop-signal-init : goal.loop-signal-init
-loop-signal-init c = begun_none c.args.circuit.now c.args.tech.now c.args.schedule.now c.args.from
-    c.launched-signal-items.result.now c.launched-signal-items.ensures c.args.windows.now.items
-    c.requires.launched
+loop-signal-init c = grind (arith, begun_none)
 
 pub put-requires : goal.put-requires
 put-requires c =

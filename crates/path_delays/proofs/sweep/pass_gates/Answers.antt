@@ -6,14 +6,10 @@ use Rattle.path_delays.proofs.SweepLemmas.{passed_none, passed_next, next_within
 use Rattle.path_delays.proofs.sweep.pass_gates.Goals as goal
 
 pub loop-gate-init : goal.loop-gate-init
-loop-gate-init c =
-    passed_none c.args.circuit.now c.args.tech.now c.args.schedule.now c.args.levels.now
-    c.args.windows.now.items c.requires.launched
+loop-gate-init c = grind (arith, passed_none)
 
 pub bounds-as_slice-gate : goal.bounds-as_slice-gate
-bounds-as_slice-gate c = rw c.as_slice.ensures
-    (next_within c.args.circuit.now c.args.levels.now c.gates-gate-items.result.now
-    c.loop-gate.gate-index c.requires.levels c.gates-gate-items.ensures c.loop-gate-test.true)
+bounds-as_slice-gate c = grind (arith, next_within)
 
 pub gate_window-window-requires-clause-gate : goal.gate_window-window-requires-clause-gate
 gate_window-window-requires-clause-gate c =

@@ -1,5 +1,5 @@
 -- One signal more.
-use Rattle.path_delays.proofs.Vocabulary.{◌≡◌, length, refl, arith, slice_get_read}
+use Rattle.path_delays.proofs.Vocabulary.{length, refl, arith, slice_get_read}
 use Rattle.path_delays.proofs.NetworkLemmas.{AreAllReads-none, AreAllReads-more}
 use Rattle.path_delays.proofs.network.Network.all_reads.Goals as goal
 
@@ -17,6 +17,4 @@ loop-number-preserved c =
     (rw c.as_slice-signal-items.ensures at c.signal-item.is)) c.loop-number.invariant)
 
 pub returns : goal.returns
-returns c =
-    let all : c.loop-number.number ≡ length c.as_slice-signal-items.result.now = omega arith in
-    rw (all, c.as_slice-signal-items.ensures) at c.loop-number.invariant
+returns c = grind (arith)

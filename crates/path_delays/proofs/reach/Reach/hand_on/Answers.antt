@@ -1,5 +1,5 @@
 -- One reader more.
-use Rattle.path_delays.proofs.Vocabulary.{◌≡◌, ℕ, List, Option, Some, length, take, get_or, refl, sym, ◌∙◌, ap, subst, arith, IsSome, take_all, take_more, Lanes, AllBounded, IsHanded, lanes_at}
+use Rattle.path_delays.proofs.Vocabulary.{◌≡◌, ℕ, List, Option, Some, length, take, get_or, refl, sym, ◌∙◌, ap, subst, arith, IsSome, take_all, take_more, Lanes, IsHanded, lanes_at}
 use Rattle.path_delays.proofs.Hands.{HasReachRoom-same, AreHanded-push}
 use Rattle.path_delays.proofs.LaneLemmas.{some_is}
 use Rattle.path_delays.proofs.reach.Reach.hand_on.Goals as goal
@@ -13,9 +13,7 @@ hand_to-requires-clause-reached c =
     subst (λ (o : Option Lanes). IsSome o) (sym c.loop-gate.invariant.kept) c.requires.reached
 
 pub hand_to-requires-clause-small : goal.hand_to-requires-clause-small
-hand_to-requires-clause-small c given here =
-    subst (λ n. AllBounded n given) (sym c.loop-gate.invariant.limit)
-    (c.requires.small given (sym c.loop-gate.invariant.kept ∙ here))
+hand_to-requires-clause-small c given here = grind (arith)
 
 pub loop-gate-preserved : goal.loop-gate-preserved
 loop-gate-preserved c =

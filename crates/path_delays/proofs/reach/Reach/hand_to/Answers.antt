@@ -1,5 +1,5 @@
 -- The gate joins the sums with its own, or holds them alone and waits.
-use Rattle.path_delays.proofs.Vocabulary.{◌∙◌, pos, sym, subst, arith, get_or_default, AreWithin, IsInserted, limit_of}
+use Rattle.path_delays.proofs.Vocabulary.{◌∙◌, pos, sym, subst, arith, get_or_default, IsInserted, limit_of}
 use Rattle.path_delays.proofs.Hands.{IsHanded-merged, IsHanded-passed, row_bounded}
 use Rattle.path_delays.proofs.reach.Reach.hand_to.Goals as goal
 
@@ -8,18 +8,14 @@ merge-requires-clause-sums c = row_bounded c.args.self.now c.args.signal (limit_
     c.requires.reached c.requires.small
 
 pub merge-requires-clause-delay : goal.merge-requires-clause-delay
-merge-requires-clause-delay c = subst (AreWithin (limit_of c.args.self.now))
-    (sym c.index-delay.ensures) (c.requires.room.small_delays c.args.gate c.index-delay.result.now
-    (omega (arith, c.requires.gate, c.requires.room.delays)))
+merge-requires-clause-delay c = grind (arith)
 
 pub pass-requires-clause-sums : goal.pass-requires-clause-sums
 pass-requires-clause-sums c = row_bounded c.args.self.now c.args.signal (limit_of c.args.self.now)
     c.requires.reached c.requires.small
 
 pub pass-requires-clause-delay : goal.pass-requires-clause-delay
-pass-requires-clause-delay c = subst (AreWithin (limit_of c.args.self.now))
-    (sym c.index-delay.ensures) (c.requires.room.small_delays c.args.gate c.index-delay.result.now
-    (omega (arith, c.requires.gate, c.requires.room.delays)))
+pass-requires-clause-delay c = grind (arith)
 
 pub returns-then-contains : goal.returns-then-contains
 returns-then-contains c given here = IsHanded-merged c.args.network.now c.args.self.now

@@ -10,14 +10,7 @@ launched-signal-items-requires-clause-inputs c =
     rw c.as_slice.ensures.value c.requires.network.inputs
 
 pub loop-signal-init : goal.loop-signal-init
-loop-signal-init c = record {
-  spread = begun_none c.args.circuit.now c.args.tech.now c.args.network.now c.requires.network
-      c.args.registers.now c.args.lane _
-      (slice_get-get_or c.args.registers.now c.args.lane 0 c.requires.lane)
-      c.launched-signal-items.result.now
-      c.launched-signal-items.ensures c.args.self.now c.requires.spread;
-  room = c.requires.room;
-}
+loop-signal-init c = search (arith, begun_none, slice_get-get_or)
 
 pub start-requires-clause-signal : goal.start-requires-clause-signal
 start-requires-clause-signal c =
@@ -36,9 +29,7 @@ pub start-requires-clause-sums : goal.start-requires-clause-sums
 start-requires-clause-sums c = grind (arith, start_bounded)
 
 pub start-requires-clause-small : goal.start-requires-clause-small
-start-requires-clause-small c =
-    all_bounded c.args.circuit.now c.args.tech.now c.args.network.now c.requires.network _ _
-    c.loop-signal.self 1 _ c.loop-signal.invariant.room c.loop-signal.invariant.spread _
+start-requires-clause-small c = grind (arith, all_bounded)
 
 pub loop-signal-preserved : goal.loop-signal-preserved
 loop-signal-preserved c = record {
