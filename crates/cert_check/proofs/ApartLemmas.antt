@@ -13,24 +13,14 @@ min_right a b below = omega (arith, ints, clamps)
 -- a scale goes into the lesser of two numbers
 scale-min : (scale : ℕ) (a b : ℤ)
     → pos scale *ℤ int_min a b ≡ int_min (pos scale *ℤ a) (pos scale *ℤ b)
-scale-min scale a b =
-    by_lt_z b a
-    (λ less. let ordered : b ≤ℤ a = omega (arith, ints) in
-    ap (λ z. pos scale *ℤ z) (min_right a b ordered)
-    ∙ sym (min_right (pos scale *ℤ a) (pos scale *ℤ b) (scale_le scale b a ordered)))
-    (λ ordered. ap (λ z. pos scale *ℤ z) (min_left a b ordered)
-    ∙ sym (min_left (pos scale *ℤ a) (pos scale *ℤ b) (scale_le scale a b ordered)))
+scale-min scale a b = search (arith, by_lt_z, ints, min_right, scale_le, min_left)
 
 -- a number between both pairs is no less than the least common one over the scale
 from_least : (scale : ℕ) (from to start end at : ℤ)
     → IsBetween (pos scale *ℤ from) (pos scale *ℤ to) at
     → IsBetween (pos scale *ℤ start) (pos scale *ℤ end) at
     → (pos scale *ℤ least_common from to start end) ≤ℤ at
-from_least scale from to start end at one other =
-    let is = scale-max scale (int_min from to) (int_min start end) in
-    let first = scale-min scale from to in
-    let second = scale-min scale start end in
-    omega (arith, ints, clamps, is, first, second, one.least, other.least)
+from_least scale from to start end at one other = search (arith, scale-max, scale-min, ints, clamps)
 
 -- nor more than the greatest
 to_greatest : (scale : ℕ) (from to start end at : ℤ)
@@ -38,10 +28,7 @@ to_greatest : (scale : ℕ) (from to start end at : ℤ)
     → IsBetween (pos scale *ℤ start) (pos scale *ℤ end) at
     → at ≤ℤ (pos scale *ℤ greatest_common from to start end)
 to_greatest scale from to start end at one other =
-    let is = scale-min scale (int_max from to) (int_max start end) in
-    let first = scale-max scale from to in
-    let second = scale-max scale start end in
-    omega (arith, ints, clamps, is, first, second, one.greatest, other.greatest)
+    search (arith, scale-min, scale-max, ints, clamps)
 
 -- no number is between two pairs that have none in common
 none_common : (scale : ℕ) (from to start end at : ℤ) → 0 < scale
@@ -74,10 +61,7 @@ one_common scale from to start end at also same one other also_one also_other =
 between_common : (from to start end at : ℤ) → least_common from to start end ≤ℤ at
     → at ≤ℤ greatest_common from to start end
     → IsBetween (pos 1 *ℤ from) (pos 1 *ℤ to) at × IsBetween (pos 1 *ℤ start) (pos 1 *ℤ end) at
-between_common from to start end at low high = (
-  record { least = omega (arith, ints, clamps); greatest = omega (arith, ints, clamps) },
-  record { least = omega (arith, ints, clamps); greatest = omega (arith, ints, clamps) },
-)
+between_common from to start end at low high = search (arith, ints, clamps)
 
 module _ (from to start end : Point) where
   abbrev left : ℤ

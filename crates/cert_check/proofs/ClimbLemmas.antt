@@ -15,9 +15,7 @@ module _ {sinks : ℕ} {merges : List Merge} (topology : IsTopology sinks merges
 
   -- below a sink is that sink
   below_sink : (node : ℕ) → node < sinks → Below node → register ≡ node
-  below_sink node low below = only_item node register
-      (subst (λ numbers. Contains numbers register) (numbers_below-sink sinks merges node low)
-      below)
+  below_sink node low below = search (arith, only_item, numbers_below-sink)
 
   -- below what a merge makes are the sinks of the two that it joins
   below_both : (place : ℕ) (merge : Merge) → slice_get merges place ≡ Some merge

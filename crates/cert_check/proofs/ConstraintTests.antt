@@ -73,10 +73,7 @@ module _ (circuit : Circuit) (tech : Tech) (constraints : List Constraint)
 
     is_joined : IsJoinedBy circuit tech (pair_of (get_or constraints place constraint)).0
         (pair_of (get_or constraints place constraint)).1 (get_or delays place joined)
-    is_joined = joined_here circuit tech constraints delays are place
-        (get_or constraints place constraint) (get_or delays place joined)
-        (slice_get-get_or constraints place constraint within)
-        (slice_get-get_or delays place joined (omega (arith, as_many, within)))
+    is_joined = search (arith, joined_here, slice_get-get_or, as_many)
 
     pub small_at : IfSome (get_or delays place joined) IsSmallPair
     small_at = joined_small circuit tech _ _ (get_or delays place joined) is_joined
@@ -84,11 +81,4 @@ module _ (circuit : Circuit) (tech : Tech) (constraints : List Constraint)
     pub given_at : IsSomeAnd (get_or delays place joined)
         (λ delays. weight_by tech (get_or constraints place constraint).setup delays
         ≡ (get_or constraints place constraint).weight) ↔ IsOfCircuit circuit tech constraints place
-    given_at = subst (λ found. IsSomeAnd (get_or delays place joined)
-        (λ delays. weight_by tech (get_or constraints place constraint).setup delays
-        ≡ (get_or constraints place constraint).weight)
-        ↔ IfSome found (IsConstraintOf circuit tech))
-        (sym (slice_get-get_or constraints place constraint within))
-        (given_joined circuit tech (get_or constraints place constraint)
-        (get_or delays place joined)
-        is_joined)
+    given_at = search (arith, slice_get-get_or, given_joined, is_joined)

@@ -14,18 +14,12 @@ pub record Handed (sinks : ℕ) (merges : List Merge) (lengths wires : List ℤ)
 
 -- a bound may be higher
 pub higher : (low high : ℕ) (number : ℤ) → low ≤ high → IsBelow low number → IsBelow high number
-higher low high number less below = record {
-  above = omega (arith, ints, below.above);
-  below = omega (arith, ints, below.below);
-}
+higher low high number less below = search (arith, ints)
 
 -- a sum is below a bound that is as much higher
 sum_below : (bound more : ℕ) (one other : ℤ) → IsBelow bound one → IsBelow more other
     → IsBelow (bound + more) (one +ℤ other)
-sum_below bound more one other first second = record {
-  above = omega (arith, ints, first.above, second.above);
-  below = omega (arith, ints, first.below, second.below);
-}
+sum_below bound more one other first second = search (arith, ints)
 
 module _ {sinks : ℕ} {merges : List Merge} (topology : IsTopology sinks merges)
     (lengths : List ℤ) (small : All (IsBelow (10 ^ 32)) lengths)
@@ -33,9 +27,7 @@ module _ {sinks : ℕ} {merges : List Merge} (topology : IsTopology sinks merges
   -- all of them are small
   pub handed_small : (wires : List ℤ) (done : ℕ) → Handed sinks merges lengths wires done
       → done ≤ 9998 → All (IsBelow (10 ^ 36)) wires
-  handed_small wires done handed few place default within =
-      higher (10 ^ 32 * (done + 1)) (10 ^ 36) (get_or wires place default) (omega arith)
-      (handed.small place default within)
+  handed_small wires done handed few place default within = search (arith, higher, small)
 
   module _ (wires : List ℤ) (done node up : ℕ) (handed : Handed sinks merges lengths wires done)
       (next : node + done + 1 ≡ length lengths) (is : IsParent sinks merges node up) where

@@ -14,10 +14,7 @@ fails_here places Holds place test within before tests none =
 -- one place more
 pub each_more : (Holds : ℕ → Type 0) (place : ℕ) → AtEach place Holds → Holds place
     → AtEach (place + 1) Holds
-each_more Holds place each here other within = elim (cases_lt other place) [
-  | inl before ↦ each other before
-  | inr not_before ↦ subst Holds (omega arith) here
-]
+each_more Holds place each here other within = search (arith, cases_lt)
 
 -- what stops a judgement at some places stops one at others that fails first with it
 pub stops_by : {places others : ℕ} {Holds Also : ℕ → Type 0}
@@ -39,9 +36,7 @@ passed_on P (Err passed) stop is p = subst (λ given. P (Err given)) (sym is) p
 -- what all have, the one at a place has
 pub at_place : {X : Type 0} (Holds : X → Type 0) (items : List X) (place : ℕ) (item : X)
     → All Holds items → slice_get items place ≡ Some item → Holds item
-at_place Holds items place item all here =
-    subst Holds (get_or_from_slice_get items place item item here)
-    (all place item (slice_get_within items place item here))
+at_place Holds items place item all here = search (arith, get_or_from_slice_get, slice_get_within)
 
 -- what stands from a place on is the item there and the rest
 pub rest_is : {X : Type 0} (items : List X) (place : ℕ) (d : X) → place < length items

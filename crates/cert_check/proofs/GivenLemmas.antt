@@ -5,42 +5,12 @@ module _ (circuit : Circuit) (tech : Tech) (from to : ℕ) (weight : ℤ) where
   -- a pair's greatest delay gives the weight exactly where it is that of a setup constraint
   setup_by : (delays : PairDelay) → IsDelayBetween circuit tech from to delays
       → (delays.greatest +ℤ tech.setup ≡ weight) ↔ IsSetupConstraint circuit tech from to weight
-  setup_by delays is =
-      let from_is = is.from_is in
-      let to_is = is.to_is in
-      let (path, joins, shown) = is.delays.greatest_shown in (
-        λ same. record {
-          path = path;
-          joins = rw (from_is, to_is) at joins;
-          weight_is = ap (λ z. z +ℤ tech.setup) shown ∙ same;
-          greatest = λ other other_joins. rw shown
-              (is.delays.greatest other (rw (from_is, to_is) other_joins));
-        },
-        λ its.
-            let first = its.greatest path (rw (from_is, to_is) at joins) in
-            let second = is.delays.greatest its.path (rw (from_is, to_is) its.joins) in
-            omega (arith, ints, first, second, shown, its.weight_is),
-      )
+  setup_by delays is = search (arith, ints)
 
   -- and its least delay that of a hold constraint
   hold_by : (delays : PairDelay) → IsDelayBetween circuit tech from to delays
       → (tech.hold -ℤ delays.least ≡ weight) ↔ IsHoldConstraint circuit tech from to weight
-  hold_by delays is =
-      let from_is = is.from_is in
-      let to_is = is.to_is in
-      let (path, joins, shown) = is.delays.least_shown in (
-        λ same. record {
-          path = path;
-          joins = rw (from_is, to_is) at joins;
-          weight_is = ap (λ z. tech.hold -ℤ z) shown ∙ same;
-          least = λ other other_joins. rw shown
-              (is.delays.least other (rw (from_is, to_is) other_joins));
-        },
-        λ its.
-            let first = its.least path (rw (from_is, to_is) at joins) in
-            let second = is.delays.least its.path (rw (from_is, to_is) its.joins) in
-            omega (arith, ints, first, second, shown, its.weight_is),
-      )
+  hold_by delays is = search (arith, ints)
 
 module _ (circuit : Circuit) (tech : Tech) where
   -- a constraint is one of the circuit exactly where its pair's delays give its weight

@@ -9,16 +9,7 @@ kept number = to_z w128 (of_z w128 number)
 -- a register's delay and those of gates, added up
 pub kept_sum : (first more : ℤ) → IsWithin 0 1000000 first → IsBelow (2 ^ 81) more
     → IsBelow (10 ^ 25) (kept (kept first +ℤ kept more))
-kept_sum first more small few =
-    let fits : FitsSigned w128 first = omega (arith, ints, small.above, small.below) in
-    let fits' : FitsSigned w128 more = omega (arith, ints, few.above, few.below) in
-    let both : FitsSigned w128 (first +ℤ more) =
-    omega (arith, ints, small.above, small.below, few.above, few.below) in
-    rw (to_z-of_z w128 first fits, to_z-of_z w128 more fits', to_z-of_z w128 (first +ℤ more) both)
-    (record {
-      above = omega (arith, ints, small.above, few.above);
-      below = omega (arith, ints, small.below, few.below);
-    })
+kept_sum first more small few = search (arith, ints, to_z-of_z)
 
 -- a sum of delays is kept as it is
 pub kept_sum_same : (sum : ℤ) → IsBelow (2 ^ 82) sum → kept sum ≡ sum

@@ -11,13 +11,7 @@ use Rattle.cert_check.proofs.DownLemmas.{one_wire}
 
 -- a point below a bound has rotated coordinates below a higher one
 rotated_below : (point : Point) → IsPointBelow (10 ^ 26) point → IsUvBelow (10 ^ 31) (rotated point)
-rotated_below point below =
-    let x = below.x in
-    let y = below.y in
-    record {
-      u = record { above = omega (arith, ints, x, y); below = omega (arith, ints, x, y) };
-      v = record { above = omega (arith, ints, x, y); below = omega (arith, ints, x, y) };
-    }
+rotated_below point below = search (arith, ints)
 
 -- a circuit has few registers
 pub few_registers : (circuit : Circuit) → length circuit.registers ≤ 4097
@@ -35,9 +29,7 @@ module _ (problem : Problem) (report : Report) (size : IsOfSize problem.circuit 
 
   -- the source has small coordinates
   pub source_small : IsUvBelow (10 ^ 31) (source_in problem report)
-  source_small = rotated_below (on_grid report.period problem.tech problem.places.source)
-      (on_grid_below report.period problem.tech bounds.timing.period problem.places.source
-      problem.valid.source_near)
+  source_small = search (arith, rotated_below, on_grid_below)
 
   -- so has a register, and its offset is small
   small_sink : (place : Point) (arrival : ℤ) → IsPointBelow 1000000000000001 place
@@ -77,13 +69,7 @@ pub denotes_level : (sinks : List Sink) (wire : ℕ → ℤ) (register : ℕ) (d
     → (test : Bool) → register < length sinks → IsTrue test ↔ (wire register -ℤ wire 0
     ≡ (get_or sinks 0 default).offset -ℤ (get_or sinks register default).offset)
     → IsTrue test ↔ IsLevel sinks wire register
-denotes_level sinks wire register default test within denotes =
-    subst (λ found. IsTrue test ↔ IfSome found (λ sink. IfSome (slice_get sinks 0)
-    (λ first. wire register -ℤ wire 0 ≡ first.offset -ℤ sink.offset)))
-    (sym (slice_get-get_or sinks register default within))
-    (subst (λ found. IsTrue test ↔ IfSome found
-    (λ first. wire register -ℤ wire 0 ≡ first.offset -ℤ (get_or sinks register default).offset))
-    (sym (slice_get-get_or sinks 0 default (omega arith))) denotes)
+denotes_level sinks wire register default test within denotes = search (arith, slice_get-get_or)
 
 -- wires down are one, so a register's skew is that of any
 pub skewed_level : (sinks : List Sink) (merges : List Merge) (tree : Embedding) (wire : ℕ → ℤ)
@@ -246,14 +232,4 @@ module _ (sinks : List Sink) (report : Report) (few : length sinks ≤ 4097)
   pub total_denoted : (lengths : List ℤ) → lengths ≡ report.tree.length → (sum : ℤ)
       → sum ≡ total_length (number_at lengths) (length lengths) → IsBelow (10 ^ 36) report.total
       → (of_z w128 sum ≡ of_z w128 report.total) ↔ (report.total ≡ wire)
-  total_denoted lengths same sum is small_total =
-      let count : length report.tree.length ≡ source_of (length sinks) = omega (arith, edges) in
-      let whole : sum ≡ wire = is
-      ∙ ap (λ list. total_length (number_at list) (length list)) same
-      ∙ ap (total_length (number_at report.tree.length)) count in
-      let plain = to_z-of_z w128 report.total
-      (omega (arith, ints, small_total.above, small_total.below)) in (
-        λ denoted. sym plain ∙ sym (ap (to_z w128) denoted)
-            ∙ ap (λ z. to_z w128 (of_z w128 z)) whole ∙ to_z-of_z w128 wire wire_fits,
-        λ total. sym (ap (of_z w128) (total ∙ sym whole)),
-      )
+  total_denoted lengths same sum is small_total = search (arith, same, to_z-of_z, ints, wire_fits)

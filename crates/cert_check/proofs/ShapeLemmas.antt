@@ -8,9 +8,7 @@ pub stands_by : (sinks : List Sink) (tree : Embedding) (register : ℕ) (d : Sin
     → register < length sinks
     → IsTrue test ↔ (rotated (tree.place register) ≡ (get_or sinks register d).at)
     → IsTrue test ↔ StandsAt sinks tree register
-stands_by sinks tree register d test within =
-    subst (λ found. IsTrue test ↔ IfSome found (λ sink. rotated (tree.place register) ≡ sink.at))
-    (sym (slice_get-get_or sinks register d within))
+stands_by sinks tree register d test within = search (arith, slice_get-get_or)
 
 module _ (sinks : List Sink) (merges : List Merge) (source : Uv) (tree : Embedding)
     (all : length merges + 1 ≡ length sinks) where
@@ -22,33 +20,17 @@ module _ (sinks : List Sink) (merges : List Merge) (source : Uv) (tree : Embeddi
   -- a sink
   of_sink : (node : ℕ) → node < length sinks → StandsAt sinks tree node
       → HasShape sinks merges source tree node
-  of_sink node low stands = record {
-    sink_stands = stands;
-    joins = λ place merge is here. absurd (omega (arith, low, is));
-    source_stands = λ is. absurd (omega (arith, low, is, all));
-  }
+  of_sink node low stands = search arith
 
   -- a merge
   of_merge : (place : ℕ) → place < length merges → JoinsAt (length sinks) merges place
       → HasShape sinks merges source tree (length sinks + place)
-  of_merge place low joins = record {
-    sink_stands = no_sink (length sinks + place) (omega arith);
-    joins = λ other merge is here.
-        let same : place ≡ other = omega (arith, is) in
-        some_if (slice_get merges other) (IsMerge (length sinks) (take other merges)) merge
-        (subst (JoinsAt (length sinks) merges) same joins) here;
-    source_stands = λ is. absurd (omega (arith, low, is, all));
-  }
+  of_merge place low joins = search (arith, no_sink, some_if)
 
   -- the source
   of_source : rotated (tree.place (source_of (length sinks))) ≡ source
       → HasShape sinks merges source tree (source_of (length sinks))
-  of_source stands = record {
-    sink_stands = no_sink (source_of (length sinks)) (omega (arith, all));
-    joins = λ place merge is here.
-        absurd (omega (arith, is, all, slice_get_within merges place merge here));
-    source_stands = λ _. stands;
-  }
+  of_source stands = search (arith, no_sink, slice_get_within)
 
   -- all sinks, and merges before a place
   before_merge : (count : ℕ) → count ≤ length merges → AtEach (length sinks) (StandsAt sinks tree)
@@ -65,11 +47,7 @@ module _ (sinks : List Sink) (merges : List Merge) (source : Uv) (tree : Embeddi
   -- the first sink that is moved is the first node
   pub moved : (register : ℕ) → FailsFirst (length sinks) (StandsAt sinks tree) register
       → FailsFirst (2 * length sinks) (HasShape sinks merges source tree) register
-  moved register first = record {
-    within = omega (arith, first.within);
-    fails = λ shape. first.fails shape.sink_stands;
-    before = λ node low. of_sink node (omega (arith, first.within)) (first.before node low);
-  }
+  moved register first = search (arith, of_sink)
 
   module _ (stand : AtEach (length sinks) (StandsAt sinks tree)) where
     -- and else the first merge that doesn't join what it may
@@ -92,20 +70,11 @@ module _ (sinks : List Sink) (merges : List Merge) (source : Uv) (tree : Embeddi
       pub source_moved : (rotated (tree.place (source_of (length sinks))) ≡ source → ⊥)
           → FailsFirst (2 * length sinks) (HasShape sinks merges source tree)
           (source_of (length sinks))
-      source_moved fails = record {
-        within = omega (arith, all);
-        fails = λ shape. fails (shape.source_stands refl);
-        before = before_source;
-      }
+      source_moved fails = search (arith, before_source)
 
       pub all_shaped : rotated (tree.place (source_of (length sinks))) ≡ source
           → AtEach (2 * length sinks) (HasShape sinks merges source tree)
-      all_shaped stands node low = elim (cases_lt node (source_of (length sinks))) [
-        | inl below ↦ before_source node below
-        | inr past ↦
-            let is : source_of (length sinks) ≡ node = omega (arith, all) in
-            subst (HasShape sinks merges source tree) is (of_source stands)
-      ]
+      all_shaped stands node low = search (arith, cases_lt, before_source, of_source)
 
   -- where each merge joins what it may, the merges are a topology
   pub shape_topology : AtEach (2 * length sinks) (HasShape sinks merges source tree)

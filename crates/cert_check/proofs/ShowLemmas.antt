@@ -6,20 +6,13 @@ use Rattle.cts_model.specs.declared.tree.Show.{Show}
 -- a small number, as the code keeps it, is small
 pub kept_below : (low high : ℕ) (number : ℤ) → low ≤ high → high ≤ 10 ^ 36 → IsBelow low number
     → IsBelow high (to_z w128 (of_z w128 number))
-kept_below low high number less few below =
-    let plain = to_z-of_z w128 number (omega (arith, ints, below.above, below.below)) in
-    subst (IsBelow high) (sym plain) (record {
-      above = omega (arith, ints, below.above);
-      below = omega (arith, ints, below.below);
-    })
+kept_below low high number less few below = search (arith, to_z-of_z, ints)
 
 -- what a test says of an item of a list, it says of what is found there
 pub denotes_found : {X : Type 0} (Holds : X → Type 0) (items : List X) (place : ℕ) (default : X)
     → (test : Bool) → place < length items → IsTrue test ↔ Holds (get_or items place default)
     → IsTrue test ↔ IsSomeAnd (slice_get items place) Holds
-denotes_found Holds items place default test within denotes =
-    subst (λ found. IsTrue test ↔ IsSomeAnd found Holds)
-    (sym (slice_get-get_or items place default within)) denotes
+denotes_found Holds items place default test within denotes = search (arith, slice_get-get_or)
 
 -- and with the span of two sinks
 pub denotes_span : (sinks : List Sink) (reach : ℤ) (first second : ℕ) (default : Sink)
@@ -53,7 +46,4 @@ denotes_source sinks source place list other same within root reach top number r
 pub kept_at : (list other : List ℤ) (place : ℕ) → other ≡ list → All (IsBelow (10 ^ 32)) list
     → place < length list
     → to_z w128 (of_z w128 (get_or other place (pos 0))) ≡ get_or list place (pos 0)
-kept_at list other place same small within =
-    let below = small place (pos 0) within in
-    ap (λ list. to_z w128 (of_z w128 (get_or list place (pos 0)))) same
-    ∙ to_z-of_z w128 (get_or list place (pos 0)) (omega (arith, ints, below.above, below.below))
+kept_at list other place same small within = search (arith, to_z-of_z, ints)

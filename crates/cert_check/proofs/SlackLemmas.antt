@@ -131,36 +131,13 @@ module _ (circuit : Circuit) (tech : Tech) (period : Fraction) (at : List ℤ) (
 
   -- paths meet the period exactly where neither slack is below 0
   pub room_meets : HasSlackRoom own ↔ MeetsAt circuit tech period at register
-  room_meets =
-      let setup = spares circuit (nat_abs period.den) some
-      (setup_spare circuit tech (nat_abs period.den) period.num (arrival_of at)) register own.setup
-      is.setup in
-      let hold = spares circuit (nat_abs period.den) some
-      (hold_spare circuit tech (nat_abs period.den) (arrival_of at)) register own.hold is.hold in (
-        λ room. record {
-          setup = λ from path joins. (not_below _ _).0 (setup.0 room.0 from path joins);
-          hold = λ from path joins. (not_below _ _).0 (hold.0 room.1 from path joins);
-        },
-        λ meets. (
-          setup.1 (λ from path joins. (not_below _ _).1 (meets.setup from path joins)),
-          hold.1 (λ from path joins. (not_below _ _).1 (meets.hold from path joins)),
-        ),
-      )
+  room_meets = search (arith, spares, some, not_below)
 
   -- other slacks are right exactly where they are these
   same_slack : (slack : Slack)
       → (AreOneSlack slack.setup own.setup × AreOneSlack slack.hold own.hold)
       ↔ IsSlack circuit tech (nat_abs period.den) period.num (arrival_of at) register slack
-  same_slack slack =
-      let setup = one_slack circuit (nat_abs period.den) some
-      (setup_spare circuit tech (nat_abs period.den) period.num (arrival_of at)) register
-      slack.setup own.setup is.setup in
-      let hold = one_slack circuit (nat_abs period.den) some
-      (hold_spare circuit tech (nat_abs period.den) (arrival_of at)) register slack.hold own.hold
-      is.hold in (
-        λ both. record { setup = setup.0 both.0; hold = hold.0 both.1 },
-        λ right. (setup.1 right.setup, hold.1 right.hold),
-      )
+  same_slack slack = search (arith, one_slack, some)
 
   -- so it is with those that are printed for the register
   pub prints_slack : (slacks : List Slack) (slack : Slack)

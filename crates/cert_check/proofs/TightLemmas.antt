@@ -60,6 +60,4 @@ tight_all P Q each (Tight depth constraint ∷ leads) all =
 
 pub tight_among : (registers : ℕ) (leads : List Lead) → All (LeadsAmong registers) leads
     → All (IsBetweenRegisters registers) (tight_constraints leads)
-tight_among registers =
-    tight_all (IsBetweenRegisters registers) (LeadsAmong registers)
-    (λ depth constraint among. among)
+tight_among registers = search (arith, tight_all)

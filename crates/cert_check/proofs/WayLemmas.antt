@@ -96,10 +96,7 @@ module _ (from : Point) (points : List Point) (some : 1 ≤ length points) where
 -- two numbers below the bound are less than its double apart
 apart_within : (a b : ℤ) → IsBelow (10 ^ 32) a → IsBelow (10 ^ 32) b
     → (pos 0 ≤ℤ apart a b) × (apart a b ≤ℤ pos (2 * 10 ^ 32))
-apart_within a b one other = (
-  omega (arith, ints, clamps),
-  omega (arith, ints, clamps, one.above, one.below, other.above, other.below),
-)
+apart_within a b one other = search (arith, ints, clamps)
 
 -- so two points aren't further from one another than four times that
 pub distance_within : (from to : Point) (far : ℤ) → far ≡ distance from to
@@ -133,25 +130,14 @@ drawn_by_way from to long points some few ends way = record {
 -- and the other way round
 way_by_drawn : (from to : Point) (long : ℤ) (points : List Point)
     → IsDrawn from to long points → AreEnds from to points × IsWay long points
-way_by_drawn from to long points drawn = (
-  record { begins = drawn.begins; ends = drawn.ends },
-  record {
-    free = record { straight = drawn.straight; apart = drawn.apart };
-    long_enough = record {
-      sum = drawn.sum;
-      alone = λ none. ap length (drawn.no_length none);
-    };
-  },
-)
+way_by_drawn from to long points drawn = search arith
 
 -- so where the ends are right, they are exactly where the points are those of a way
 pub drawn_exactly : (from to : Point) (long : ℤ) (points : List Point) → 1 ≤ length points
     → length points ≤ 5 → AreEnds from to points → (holds : Bool)
     → (IsTrue holds ↔ IsWay long points) → (IsTrue holds ↔ IsDrawn from to long points)
-drawn_exactly from to long points some few ends holds same = (
-  λ is. drawn_by_way from to long points some few ends (same.0 is),
-  λ drawn. same.1 (way_by_drawn from to long points drawn).1,
-)
+drawn_exactly from to long points some few ends holds same =
+    search (arith, drawn_by_way, way_by_drawn)
 
 -- a point that is read is there
 point_here : (points : List Point) (place : ℕ) (at : Point) → place < length points
@@ -163,19 +149,11 @@ pub ends_by_points : (from to : Point) (points : List Point) → 1 ≤ length po
     → get_or points 0 origin ≡ from → (holds : Bool)
     → (IsTrue holds ↔ (get_or points (length points - 1) origin ≡ to))
     → (IsTrue holds ↔ AreEnds from to points)
-ends_by_points from to points some begins holds same = (
-  λ is. record {
-    begins = point_here points 0 from (omega (arith, some)) begins;
-    ends = point_here points (length points - 1) to (omega (arith, some)) (same.0 is);
-  },
-  λ ends. same.1 (get_or_from_slice_get points (length points - 1) to origin ends.ends),
-)
+ends_by_points from to points some begins holds same =
+    search (arith, point_here, get_or_from_slice_get)
 
 -- and else not
 pub not_ends_by_points : (from to : Point) (points : List Point) → 1 ≤ length points
     → (holds : Bool) → (IsTrue holds ↔ (get_or points 0 origin ≡ from)) → holds ≡ false
     → (IsTrue holds ↔ AreEnds from to points)
-not_ends_by_points from to points some holds same fails = (
-  λ is. absurd (false≢true (sym fails ∙ is)),
-  λ ends. same.1 (get_or_from_slice_get points 0 from origin ends.begins),
-)
+not_ends_by_points from to points some holds same fails = search (arith, get_or_from_slice_get)

@@ -91,7 +91,8 @@ module _ (circuit : Circuit) where
   -- what captures a signal is a register, and what it captures a signal
   pub capture_within : (register signal : ℕ) → Captures circuit register signal
       → (register < length circuit.registers) × (signal < length circuit.signals)
-  capture_within register signal captures = grind (arith, slice_get_within, All-contains, captured_within)
+  capture_within register signal captures =
+      grind (arith, slice_get_within, All-contains, captured_within)
 
   -- grouped by signal they are the registers that capture each
   pub captures_grouped : (pairs : List (ℕ × ℕ)) (groups : Groups)

@@ -139,7 +139,8 @@ gathering_room walk old now next signal room so_far waits = λ k d inside.
     })
 
 -- no path leads to a register in a lane in which nothing was found
-pub missed_path : (circuit : Circuit) (tech : Tech) (from lane : ℕ) (walk : Walk) (capture : Capture)
+pub missed_path : (circuit : Circuit) (tech : Tech) (from lane : ℕ) (walk : Walk)
+    (capture : Capture)
     → HasReach circuit tech from lane walk → IsCapture circuit walk capture → lane < 16
     → slice_index_or capture.lanes lane false ≡ false → (path : List ℕ)
     → IsPath circuit from capture.register path → ⊥

@@ -46,7 +46,8 @@ shown_either : (Come : Sums → Type 0) (known found : Option Sums)
 shown_either Come known None was now sums here = was sums here
 shown_either Come None (Some found) was now sums here =
     subst (AreShownBy Come) (same_Some found sums here) (now found refl)
-shown_either Come (Some known) (Some found) was now sums here = grind (arith, same_Some, shown_merged)
+shown_either Come (Some known) (Some found) was now sums here =
+    grind (arith, same_Some, shown_merged)
 
 -- what is shown by some is shown by more
 shown_more : (Come More : Sums → Type 0) → ((one : Sums) → Come one → More one) → (sums : Sums)
@@ -75,7 +76,8 @@ extremes_around Come (Some known) are one comes = are.around one comes
 pub extremes_same : (Come Other : Sums → Type 0) (known : Option Sums)
     → ((one : Sums) → Come one → Other one) → ((one : Sums) → Other one → Come one)
     → AreExtremesIfAny Come known → AreExtremesIfAny Other known
-extremes_same Come Other known to back are = grind (arith, extremes_made, shown_more, extremes_shown, extremes_around)
+extremes_same Come Other known to back are =
+    grind (arith, extremes_made, shown_more, extremes_shown, extremes_around)
 
 -- gates that follow one another, and one more at the end
 Follows-push : (signals : List Signal) (first : ℕ) (gates : List ℕ) (last gate : ℕ)

@@ -37,7 +37,8 @@ kept_first : (circuit : Circuit) (tech : Tech) (room : ℕ) (constraint : Constr
     → GivesWeight circuit tech constraint whole → FitsRoom whole room path
     → ArePathsWithin circuit tech (room - length path) more rest
     → ArePathsWithin circuit tech room (constraint ∷ more) (path ∷ rest)
-kept_first circuit tech room constraint more whole path rest gives kept within = grind (arith, leb-true, leb-false)
+kept_first circuit tech room constraint more whole path rest gives kept within =
+    grind (arith, leb-true, leb-false)
 
 -- the extreme path of its pair gives a constraint its weight
 pub path_kept : (circuit : Circuit) (tech : Tech) (constraint : Constraint) (room : ℕ)
@@ -97,7 +98,8 @@ module _ (circuit : Circuit) (tech : Tech) (constraints : List Constraint) (room
       → KeepsBefore circuit tech constraints room place left old new
       → KeepsBefore circuit tech constraints room (place + 1) (left - length path) old
       (new ++ path ∷ [])
-  keeps_next place left new path default here found before = grind (arith, append_assoc, append_snoc, drop_more, kept_first)
+  keeps_next place left new path default here found before =
+      grind (arith, append_assoc, append_snoc, drop_more, kept_first)
 
   -- all of them
   pub keeps_all : (place left : ℕ) (new : List (List ℕ)) → length constraints ≤ place

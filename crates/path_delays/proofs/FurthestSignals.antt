@@ -35,4 +35,5 @@ pub none_fits_next : (walk : Walk) (lane : ℕ) (signals : List ℕ) (greatest :
     (count : ℕ) → (FitsAt walk lane greatest extreme (get_or signals count 0) → ⊥)
     → NoneFitsBefore walk lane signals greatest extreme count
     → NoneFitsBefore walk lane signals greatest extreme (count + 1)
-none_fits_next walk lane signals greatest extreme count unfit none place before fits = grind (arith, cases_lt)
+none_fits_next walk lane signals greatest extreme count unfit none place before fits =
+    grind (arith, cases_lt)

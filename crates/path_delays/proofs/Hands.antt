@@ -72,7 +72,8 @@ module _ (network : Network) (old : Reach) (from gate : ℕ) (given : Lanes) (de
       merged_sums (lane_of (row_at (rows_of old.lanes) gate) lane) (through lane))
       (rows_of old.lanes) (rows_of lanes) → IsHanded network given gate old
       (record { reached = old.reached; lanes = lanes; waiting = old.waiting })
-  IsHanded-merged lanes reached inside limit gets = grind (arith, same_through, lane_there, slice_get-get_or)
+  IsHanded-merged lanes reached inside limit gets =
+      grind (arith, same_through, lane_there, slice_get-get_or)
 
   -- one that is not holds them alone, and waits
   pub IsHanded-passed : (reached waiting : NumberSet) (lanes : LaneTable)
@@ -82,7 +83,8 @@ module _ (network : Network) (old : Reach) (from gate : ℕ) (given : Lanes) (de
       → table_limit lanes ≡ table_limit old.lanes
       → GetsSums gate through (rows_of old.lanes) (rows_of lanes) → IsHanded network given gate old
       (record { reached = reached; lanes = lanes; waiting = waiting })
-  IsHanded-passed reached waiting lanes first inserted waits limit gets = grind (arith, inserted_in, same_through)
+  IsHanded-passed reached waiting lanes first inserted waits limit gets =
+      grind (arith, inserted_in, same_through)
 
 -- a signal that is opened keeps what stood there, and else holds no sums
 pub IsOpened-kept : (old : Reach) (signal : ℕ) → has_number old.reached.words.items signal ≡ true
@@ -105,4 +107,5 @@ pub IsMarked-joined : (old between : Reach) (lane signal : ℕ) (sums : Sums) (l
     else lane_of (row_at (rows_of between.lanes) signal) other) (rows_of between.lanes)
     (rows_of lanes) → IsMarked lane signal sums old
     (record { reached = between.reached; lanes = lanes; waiting = between.waiting })
-IsMarked-joined old between lane signal sums lanes low inside opened limit gets = grind (arith, same_Some, lane_there, eq-eqb, ne_eqb)
+IsMarked-joined old between lane signal sums lanes low inside opened limit gets =
+    grind (arith, same_Some, lane_there, eq-eqb, ne_eqb)

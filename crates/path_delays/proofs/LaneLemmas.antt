@@ -31,7 +31,8 @@ missing_through limit more higher sums delay room missing small = search (arith,
 -- a delay more keeps within a limit that is higher by so much
 pub bounded_through : (limit more higher : ℕ) (sums delay : Sums) → limit + more ≤ higher
     → AreBounded limit sums → AreWithin more delay → AreBounded higher (sums_through sums delay)
-bounded_through limit more higher sums delay room bounded small = grind (arith, ints, clamps, within_through, missing_through)
+bounded_through limit more higher sums delay room bounded small =
+    grind (arith, ints, clamps, within_through, missing_through)
 
 -- what is bounded by the limit of all delays is there where it isn't below 0
 pub bounded_some : (limit : ℕ) (sums : Sums) → limit ≤ delay_limit → AreBounded limit sums
@@ -53,7 +54,8 @@ pub bounded_joined : (limit : ℕ) (known : Option Sums) (sums : Sums)
     → ((old : Sums) → known ≡ Some old → AreBounded limit old) → AreBounded limit sums
     → AreBounded limit (joined_sums known sums)
 bounded_joined limit None sums before bounded = bounded
-bounded_joined limit (Some old) sums before bounded = search (arith, within_joined, same_Some, within_merged, missing_merged)
+bounded_joined limit (Some old) sums before bounded =
+    search (arith, within_joined, same_Some, within_merged, missing_merged)
 
 -- sums that are there stay as they are when they are merged with missing ones
 merged_same : (limit : ℕ) (some none : Sums) → limit ≤ delay_limit → AreWithin limit some
@@ -124,7 +126,8 @@ pub some_through : (limit more higher : ℕ) (sums delay : Sums) → limit + mor
     → higher ≤ delay_limit → AreBounded limit sums → AreWithin more delay
     → some_sums (sums_through sums delay)
     ≡ option_map (λ (one : Sums). sums_through one delay) (some_sums sums)
-some_through limit more higher sums delay room few bounded small = grind (arith, ints, clamps, some_within, within_through, some_missing, missing_through)
+some_through limit more higher sums delay room few bounded small =
+    grind (arith, ints, clamps, some_within, within_through, some_missing, missing_through)
 
 -- what is there in a lane is reached
 pub lanes_there : (known : Option Lanes) (lane : ℕ) (sums : Sums)
@@ -137,4 +140,5 @@ lanes_there (Some lanes) lane sums here = refl
 pub bounded_read : (limit : ℕ) (sums : List Sums) (lane : ℕ)
     → AreBounded limit (get_or sums lane no_sums)
     → AreBounded limit (get_or sums lane (record { least = pos 0; greatest = pos 0 }))
-bounded_read limit sums lane bounded = grind (arith, ints, clamps, cases_lt, get_or_default, get_or_past)
+bounded_read limit sums lane bounded =
+    grind (arith, ints, clamps, cases_lt, get_or_default, get_or_past)

@@ -22,7 +22,10 @@ greatest_of_both x y = grind (arith, ints, clamps)
 -- sums within the limit stand for themselves
 stands_alone : (sums : Sums) → AreWithin narrow_limit sums
     → (wide_least sums.least ≡ sums.least) × (wide_greatest sums.greatest ≡ sums.greatest)
-stands_alone sums within = (grind (arith, ints, within.least.below), grind (arith, ints, within.greatest.above))
+stands_alone sums within = (
+  grind (arith, ints, within.least.below),
+  grind (arith, ints, within.greatest.above),
+)
 
 -- what is kept of sums that are bounded is so far from the end of 32 bits
 pub passable : (lanes : NarrowLanes) (lane : ℕ) → AreBounded narrow_limit (sums_in lanes lane)
@@ -46,21 +49,24 @@ pub narrow_passed : (old new : NarrowLanes) (lane : ℕ) (delay : Sums)
     → least_in new lane ≡ least_in old lane +ℤ delay.least
     → greatest_in new lane ≡ greatest_in old lane +ℤ delay.greatest
     → sums_in new lane ≡ sums_through (sums_in old lane) delay
-narrow_passed old new lane delay bounded within least greatest = grind (arith, ints, clamps, same_sums, least_after, greatest_after)
+narrow_passed old new lane delay bounded within least greatest =
+    grind (arith, ints, clamps, same_sums, least_after, greatest_after)
 
 -- merged lanes stand for merged sums
 pub narrow_merged : (old other new : NarrowLanes) (lane : ℕ)
     → least_in new lane ≡ int_min (least_in old lane) (least_in other lane)
     → greatest_in new lane ≡ int_max (greatest_in old lane) (greatest_in other lane)
     → sums_in new lane ≡ merged_sums (sums_in old lane) (sums_in other lane)
-narrow_merged old other new lane least greatest = grind (arith, ints, clamps, same_sums, least_of_both, greatest_of_both)
+narrow_merged old other new lane least greatest =
+    grind (arith, ints, clamps, same_sums, least_of_both, greatest_of_both)
 
 -- and so with sums that are joined in a lane
 pub narrow_joined : (old new : NarrowLanes) (lane : ℕ) (sums : Sums) → AreWithin narrow_limit sums
     → least_in new lane ≡ int_min (least_in old lane) sums.least
     → greatest_in new lane ≡ int_max (greatest_in old lane) sums.greatest
     → sums_in new lane ≡ merged_sums (sums_in old lane) sums
-narrow_joined old new lane sums within least greatest = grind (arith, ints, clamps, same_sums, least_of_both, stands_alone, greatest_of_both)
+narrow_joined old new lane sums within least greatest =
+    grind (arith, ints, clamps, same_sums, least_of_both, stands_alone, greatest_of_both)
 
 -- lanes of 64 bits hold the same sums
 pub lane_widened : (lanes : NarrowLanes) (lane : ℕ) → lane < 16
@@ -118,7 +124,8 @@ pub narrow_read : (rows : List NarrowLanes) (old : List Lanes) (signal : ℕ) (l
     (lane : ℕ) → old ≡ map wide_lanes rows → signal < length old
     → lanes ≡ get_or rows signal lanes → lane < 16
     → lane_of (row_at old signal) lane ≡ sums_in lanes lane
-narrow_read rows old signal lanes lane are inside read low = grind (arith, ints, clamps, length-map, row_read, get_or-map, lane_widened)
+narrow_read rows old signal lanes lane are inside read low =
+    grind (arith, ints, clamps, length-map, row_read, get_or-map, lane_widened)
 
 -- what is bounded there is so as it is kept
 pub narrow_bounded : (limit : ℕ) (rows : List NarrowLanes) (old : List Lanes) (signal : ℕ)
@@ -137,7 +144,8 @@ wide_lane rows old signal lane lanes are here = grind (arith, ints, clamps)
 pub narrow_lane : (rows : List NarrowLanes) (old : List Lanes) (signal lane : ℕ)
     (lanes : NarrowLanes) → old ≡ map wide_lanes rows → slice_get rows signal ≡ Some lanes
     → lane < 16 → lane_in old signal lane ≡ Some (sums_in lanes lane)
-narrow_lane rows old signal lane lanes are here low = grind (arith, ints, clamps, wide_lane, slice_get-map, lane_widened)
+narrow_lane rows old signal lane lanes are here low =
+    grind (arith, ints, clamps, wide_lane, slice_get-map, lane_widened)
 
 -- sums are joined in one lane, and the others keep theirs
 pub join_here : (lane other : ℕ) (old : ℕ → Sums) (sums new : Sums)

@@ -127,14 +127,24 @@ AreReaders-grouped signals pairs groups within reads grouped = record {
 
 -- no number has a place in no items
 pub ArePlaces-none : (limit : ℕ) (order : List ℕ) → ArePlaces limit order 0 (replicate limit 0)
-ArePlaces-none limit order = grind (arith, length-replicate, cases_lt, get_or-replicate, get_or_past)
+ArePlaces-none limit order =
+    grind (arith, length-replicate, cases_lt, get_or-replicate, get_or_past)
 
 -- one more item's place
 pub ArePlaces-more : (limit : ℕ) (order : List ℕ) (passed : ℕ) (places : List ℕ) (number : ℕ)
     → AllPairs (λ first second. first ≢ second) order → passed < length order
     → number ≡ get_or order passed 0 → number < limit → ArePlaces limit order passed places
     → ArePlaces limit order (passed + 1) (set places number (passed + 1))
-ArePlaces-more limit order passed places number once inside read known so_far = grind (arith, length-set, cases_lt, get_or-set_other, cases_eq, slice_get-get_or, get_or-set_same)
+ArePlaces-more limit order passed places number once inside read known so_far =
+    grind (
+      arith,
+      length-set,
+      cases_lt,
+      get_or-set_other,
+      cases_eq,
+      slice_get-get_or,
+      get_or-set_same,
+    )
 
 -- in an order of gates, places rise from what is read to what reads it
 pub AreRanks-placed : (signals : List Signal) (order places : List ℕ)

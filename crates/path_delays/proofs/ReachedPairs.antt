@@ -13,7 +13,8 @@ read_within circuit number signal within here =
 pub captured_within : (circuit : Circuit) (register : ℕ) (signal : Signal)
     → register_signal circuit register ≡ Some signal
     → All (λ number. number < length circuit.signals) signal.fan_in
-captured_within circuit register signal found = grind (arith, read_within, slice_get_within, get_or_from_slice_get)
+captured_within circuit register signal found =
+    grind (arith, read_within, slice_get_within, get_or_from_slice_get)
 
 -- a chain to a signal that the register captures is a path
 pub path_of_chain : (circuit : Circuit) (from to signal : ℕ) (chain : List ℕ)

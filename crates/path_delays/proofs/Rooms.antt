@@ -54,7 +54,8 @@ pub IsLeftAfter-more : (delays : List Sums) (passed : ℕ) (left most : ℤ) (ot
     → most ≡ int_max (get_or delays passed other).least (get_or delays passed other).greatest
     → most ≤ℤ left → IsLeftAfter (take passed delays) left
     → IsLeftAfter (take (passed + 1) delays) (left -ℤ most)
-IsLeftAfter-more delays passed left most other inside within read room so_far = grind (arith, ints, sum_by_more, most_is)
+IsLeftAfter-more delays passed left most other inside within read room so_far =
+    grind (arith, ints, sum_by_more, most_is)
 
 module _ (circuit : Circuit) (tech : Tech) (network : Network)
     (is : IsNetworkOf circuit tech network) where

@@ -47,7 +47,8 @@ pub within_joined : (limit : ℕ) (known : Option Sums) (sums : Sums)
     → ((old : Sums) → known ≡ Some old → AreWithin limit old) → AreWithin limit sums
     → AreWithin limit (joined_sums known sums)
 within_joined limit None sums before within = within
-within_joined limit (Some old) sums before within = grind (arith, ints, clamps, min_cases, max_cases)
+within_joined limit (Some old) sums before within =
+    grind (arith, ints, clamps, min_cases, max_cases)
 
 -- a delay more keeps within a limit that is higher by so much
 pub within_through : (limit more higher : ℕ) (sums delay : Sums) → limit + more ≤ higher

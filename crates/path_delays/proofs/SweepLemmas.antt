@@ -36,7 +36,8 @@ pub next_read : (circuit : Circuit) (order gates : List ℕ) (signals : List Sig
     → signals ≡ circuit.signals → place < length gates
     → signal ≡ get_or signals (get_or gates place 0) signal
     → IsReadGate circuit order place (get_or gates place 0) signal
-next_read circuit order gates signals place signal sorted same signals_are low read = grind (arith, next_within, slice_get_read, slice_get-get_or, read_within)
+next_read circuit order gates signals place signal sorted same signals_are low read =
+    grind (arith, next_within, slice_get_read, slice_get-get_or, read_within)
 
 module _ (old new : List (Option Window)) (signal : ℕ) (found : Option Window)
     (within : signal < length old)
@@ -54,7 +55,8 @@ module _ (old new : List (Option Window)) (signal : ℕ) (found : Option Window)
   -- and as small as what stood there
   pub put_small : (bound : ℕ) → AreBelow bound old
       → ((window : Window) → found ≡ Some window → IsWindowBelow bound window) → AreBelow bound new
-  put_small bound before now number window here = grind (arith, cases_eq, below_either, get_or-set_same, get_or-set_other)
+  put_small bound before now number window here =
+      grind (arith, cases_eq, below_either, get_or-set_same, get_or-set_other)
 
 module _ (circuit : Circuit) (tech : Tech) (schedule : Schedule) where
   abbrev delay : ℕ → Sums
@@ -69,7 +71,8 @@ module _ (circuit : Circuit) (tech : Tech) (schedule : Schedule) where
   -- nothing is launched where nothing stands
   pub launched_none : (count : ℕ) → count ≡ length circuit.signals
       → AreLaunched circuit tech schedule 0 (replicate count None)
-  launched_none count covers = grind (arith, length-replicate, carried_none, cases_lt, get_or-replicate, get_or_past)
+  launched_none count covers =
+      grind (arith, length-replicate, carried_none, cases_lt, get_or-replicate, get_or_past)
 
   -- the signals that a register launches, so far
   module _ (from : ℕ) (launched : List ℕ) (all : AreLaunchedBy circuit from launched) where

@@ -24,7 +24,8 @@ module _ (circuit : Circuit) (tech : Tech) (network : Network)
   -- and its gate is found there
   pub next_gate : (reach : Reach) (rank next gate : ℕ) → 1 ≤ rank → IsDue network reach rank next
       → gate ≡ get_or network.order.items (next - 1) gate → IsNextGate reach next gate
-  next_gate reach rank next gate counted due read = grind (arith, get_or_from_slice_get, gate_within)
+  next_gate reach rank next gate counted due read =
+      grind (arith, get_or_from_slice_get, gate_within)
 
 module _ (circuit : Circuit) (tech : Tech) (network : Network)
     (is : IsNetworkOf circuit tech network) (registers : List ℕ)
@@ -238,7 +239,8 @@ module _ (circuit : Circuit) (tech : Tech) (network : Network)
       → AreHanded network given more old new
       → Spread (AllBelowBut network rank pending (gates ++ more)) rank
       new
-  all_handed old new given rank pending gates [] next reads held so_far same = grind (arith, append-nil)
+  all_handed old new given rank pending gates [] next reads held so_far same =
+      grind (arith, append-nil)
   all_handed old new given rank pending gates (gate ∷ more) next reads held so_far
       (between, first, rest) =
       let here = reads gate (0, omega arith, refl) in

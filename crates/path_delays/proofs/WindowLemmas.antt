@@ -58,7 +58,8 @@ pub below_either : (bound : ℕ) (known found : Option Window) (window : Window)
     → either_window known found ≡ Some window → IsWindowBelow bound window
 below_either bound None found window before now is = now window is
 below_either bound (Some known) None window before now is = before window is
-below_either bound (Some known) (Some found) window before now is = grind (arith, same_Some, merged_below)
+below_either bound (Some known) (Some found) window before now is =
+    grind (arith, same_Some, merged_below)
 
 -- what stands as sums is that of a window
 window_there : (known : Option Window) (sums : Sums) → option_map sums_of known ≡ Some sums
@@ -128,4 +129,5 @@ pub captures_next : (circuit : Circuit) (windows captured : List (Option Window)
     → AreExtremesIfAny (StandsAt (sums_in windows) (Captures circuit register))
     (option_map sums_of found) → AreCaptures circuit windows register captured
     → AreCaptures circuit windows (register + 1) (captured ++ found ∷ [])
-captures_next circuit windows captured register found extremes so_far = grind (arith, length_push, pushed_cases)
+captures_next circuit windows captured register found extremes so_far =
+    grind (arith, length_push, pushed_cases)

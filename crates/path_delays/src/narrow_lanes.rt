@@ -59,8 +59,8 @@ fn narrow(ticks: i64) -> Ticks
 }
 
 /// The sums to a signal from several registers, in a lane each, where the greatest delays of all
-/// gates together, and a million ticks for the register, are at most 2^29 - 1: the least sums of all
-/// lanes side by side, and the greatest.
+/// gates together, and a million ticks for the register, are at most 2^29 - 1: the least sums of
+/// all lanes side by side, and the greatest.
 #[derive(Clone, Copy, Debug)]
 pub(crate) struct NarrowLanes {
     least: [Ticks; 16],

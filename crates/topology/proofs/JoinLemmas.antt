@@ -257,9 +257,7 @@ module _ {sinks : List Sink} {merges : List Merge} {old new : Live} {pair : Pair
 pub some_left : (sinks : List Sink) (merges : List Merge) (live : Live) (node : ℕ)
     (cluster : Cluster) → AreLive sinks merges live → HasCluster live node cluster
     → length merges < length sinks
-some_left sinks merges live node cluster held has =
-    let (place, within, _) = place_there live node cluster held.ordered has in
-    omega (arith, within, held.left)
+some_left sinks merges live node cluster held has = search (arith, place_there)
 
 -- one merge more
 pub were_cheapest : (sinks : List Sink) (merges : List Merge) (merge : Merge)

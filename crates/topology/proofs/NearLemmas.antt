@@ -53,9 +53,7 @@ u_most one other a is = search (arith, gap_most, at_left)
 v_most : (one other : Cluster) (a : ℤ)
     → a ≤ℤ between one.region.vlo one.region.vhi other.region.vlo other.region.vhi
     → a ≤ℤ cost_of one other
-v_most one other a is = gap_most one other a (at_right a
-    (between one.region.ulo one.region.uhi other.region.ulo other.region.uhi)
-    (between one.region.vlo one.region.vhi other.region.vlo other.region.vhi) is)
+v_most one other a is = search (arith, gap_most, at_right)
 
 -- two intervals are no less apart than the one is above the other, or below it
 up_between : (lo hi other_lo other_hi : ℤ)
@@ -100,13 +98,7 @@ greatest_turned : (gap other_gap over under : ℤ) → gap ≡ other_gap
 greatest_turned gap other_gap over under same = omega (arith, ints, clamps, same)
 
 cost_turned : (one other : Cluster) → cost_of one other ≡ cost_of other one
-cost_turned one other =
-    let u = between_turned one.region.ulo one.region.uhi other.region.ulo other.region.uhi in
-    let v = between_turned one.region.vlo one.region.vhi other.region.vlo other.region.vhi in
-    greatest_turned (gap_of one.region other.region) (gap_of other.region one.region)
-    (one.reach -ℤ other.reach) (other.reach -ℤ one.reach)
-    (ap (λ z. int_max z (between one.region.vlo one.region.vhi other.region.vlo other.region.vhi))
-    u ∙ ap (int_max (between other.region.ulo other.region.uhi one.region.ulo one.region.uhi)) v)
+cost_turned one other = search (arith, between_turned, greatest_turned)
 
 -- ---- the two nodes of a pair
 
@@ -196,34 +188,7 @@ kept_cost live owner node pair cluster other held has other_has = elim
 -- of pairs with one owner that of the lower other is the lower
 pub lower_from : (s p q e f : ℕ) → p < q → e < f → cond (nat_lt q s) p q ≡ cond (nat_lt f s) e f
     → (p < e) ⊎ ((p ≡ e) × (q < f)) → cond (nat_lt q s) q p < cond (nat_lt f s) f e
-lower_from s p q e f ordered other_ordered = elim (cases_lt q s) [
-  | inl below ↦ rw (lt-ltb q s below) (elim (cases_lt f s) [
-    | inl other_below ↦ rw (lt-ltb f s other_below) (λ same lower. elim lower [
-      | inl first ↦ absurd (omega (arith, same, first))
-      | inr (_, second) ↦ second
-    ])
-    | inr from ↦ rw (le-ltb f s from) (λ same lower. absurd (omega (
-      arith,
-      same,
-      below,
-      from,
-      ordered,
-    )))
-  ])
-  | inr from ↦ rw (le-ltb q s from) (elim (cases_lt f s) [
-    | inl below ↦ rw (lt-ltb f s below) (λ same lower. absurd (omega (
-      arith,
-      same,
-      below,
-      from,
-      other_ordered,
-    )))
-    | inr other_from ↦ rw (le-ltb f s other_from) (λ same lower. elim lower [
-      | inl first ↦ first
-      | inr (_, second) ↦ absurd (omega (arith, same, second))
-    ])
-  ])
-]
+lower_from s p q e f ordered other_ordered = search (arith, cases_lt, lt-ltb, le-ltb)
 
 -- ---- the search
 
@@ -243,12 +208,7 @@ module _ {live : Live} {owner : ℕ} where
   pub look_leaves : (node : ℕ) (least : Option Pair)
       → ((pair : Pair) → IsKeptWith live owner node pair → IsAtMost least pair)
       → IsLooked live owner (λ place. node_at live place ≡ node) least least
-  look_leaves node least no_cheaper = record {
-    stays = λ pair within. within;
-    bound = λ place pair here below with_it. no_cheaper pair
-        (subst (λ n. IsKeptWith live owner n pair) here with_it);
-    there = λ pair is. inl is;
-  }
+  look_leaves node least no_cheaper = search arith
 
   -- one node more
   pub look_next : (IsPassed IsPassedNext : ℕ → Type 0) (old now next : Option Pair)
@@ -311,12 +271,7 @@ module _ {live : Live} {owner : ℕ} where
       → IsLooked live owner IsPassed old now
       → ((other : ℕ) → other < length live.order.items → IsWanted other → IsPassed other)
       → IsLooked live owner IsWanted old now
-  look_ends IsPassed IsWanted old now held all = record {
-    stays = held.stays;
-    bound = λ other pair wanted below with_it.
-        held.bound other pair (all other below wanted) below with_it;
-    there = held.there;
-  }
+  look_ends IsPassed IsWanted old now held all = search arith
 
   module _ {cluster : Cluster} (ordered : IsOrdered live)
       (has : HasCluster live owner cluster) where

@@ -48,17 +48,7 @@ cost_grows third first second cluster one other both held one_held other_held bo
 pub sweep_starts : (sinks : List Sink) (merges : List Merge) (live : Live) (kept : List Pair)
     → merges ≡ [] → kept ≡ [] → 0 < length sinks → live.early + 1 ≡ 2 ^ 32
     → AreLive sinks [] live → IsSwept sinks merges live kept 0
-sweep_starts sinks merges live kept none empty some early held =
-    subst (λ xs. IsSwept sinks xs live kept 0) (sym none)
-    (subst (λ ys. IsSwept sinks [] live ys 0) (sym empty) (record {
-      live = held;
-      rest = some;
-      cheapest = λ place merge here. absurd (cc);
-      early = early;
-      costly = λ pair among. absurd (omega (arith, among.1));
-      made = λ pair among. absurd (omega (arith, among.1));
-      covered = λ pair is below. absurd (omega (arith, below));
-    }))
+sweep_starts sinks merges live kept none empty some early held = search arith
 
 -- ---- a node that is swept
 

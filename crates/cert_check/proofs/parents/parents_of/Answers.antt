@@ -11,6 +11,4 @@ loop-merge-preserved c =
     c.loop-merge.invariant
 
 pub returns : goal.returns
-returns c = parents_all c.args.merges.now.topology c.loop-merge.merge-index c.loop-merge.parent
-    c.loop-merge.parents.items (omega (arith, c.loop-merge-test.false))
-    (omega (arith, c.loop-merge.auto.merge-index-end)) c.loop-merge.invariant
+returns c = search (arith, parents_all)

@@ -6,7 +6,4 @@ pub returns-clause-value : goal.returns-clause-value
 returns-clause-value c = omega (arith, ints, clamps)
 
 pub returns-clause-below : goal.returns-clause-below
-returns-clause-below c = record {
-  above = omega (arith, ints, clamps);
-  below = omega (arith, ints, clamps);
-}
+returns-clause-below c = search (arith, ints, clamps)

@@ -23,20 +23,7 @@ loop-constraint-preserved c =
     (omega (arith, ints, by, once, few, within)) by
 
 pub returns-then-count-ge1 : goal.returns-then-count-ge1
-returns-then-count-ge1 c =
-    let period = c.args.period in
-    let some : pos 1 ≤ℤ to_z w128 c.loop-constraint.count-bits = search rules in
-    let (weight, count) = sums_all c.args.cycle.now c.loop-constraint.constraint-index
-    (to_z w128 c.loop-constraint.weight-bits) (to_z w128 c.loop-constraint.count-bits)
-    c.loop-constraint-test.false c.loop-constraint.invariant in
-    let asked = to_z-of_z w128 c.asked.result (record { sfits = c.asked.type_inv })
-    ∙ c.asked.ensures ∙ (λ i. (period.den *ℤ weight i) -ℤ (period.num *ℤ count i)) in (
-      λ test. (
-        omega (arith, ints, some, count),
-        omega (arith, ints, asked, c.are_same.ensures.0 test),
-      ),
-      λ worth. c.are_same.ensures.1 (omega (arith, ints, asked, worth.1)),
-    )
+returns-then-count-ge1 c = search (arith, rules, sums_all, to_z-of_z, ints)
 
 pub returns-else-count-ge1 : goal.returns-else-count-ge1
 returns-else-count-ge1 c = grind (arith, common_steps)

@@ -4,7 +4,8 @@ use Rattle.path_delays.proofs.CyclePathLemmas.{pair_within}
 use Rattle.path_delays.proofs.cycle_paths.walk_along.Goals as goal
 
 pub walk_between-requires-clause-pairs : goal.walk_between-requires-clause-pairs
-walk_between-requires-clause-pairs c place default inside = grind (arith, length-take, get_or-take, get_or_default)
+walk_between-requires-clause-pairs c place default inside =
+    grind (arith, length-take, get_or-take, get_or_default)
 
 pub returns-clause-reach : goal.returns-clause-reach
 returns-clause-reach c some lane constraint here =
@@ -22,4 +23,13 @@ returns-clause-reach c some lane constraint here =
     (slice_get-get_or (take count pairs) lane (0, 0) inside ∙ ap Some value)
 
 pub loop-lane-preserved : goal.loop-lane-preserved
-loop-lane-preserved c = grind (arith, get_or-set_same, length-set, cases_lt, get_or-set_other, get_or_from_slice_get, pair_within)
+loop-lane-preserved c =
+    grind (
+      arith,
+      get_or-set_same,
+      length-set,
+      cases_lt,
+      get_or-set_other,
+      get_or_from_slice_get,
+      pair_within,
+    )

@@ -3,21 +3,13 @@ use Rattle.topology.proofs.SweepLemmas.{sweep_ends, sweep_starts}
 use Rattle.topology.proofs.merging.swept.Goals as goal
 
 pub loop-node-init : goal.loop-node-init
-loop-node-init c = sweep_starts c.args.sinks.now c.args.merges.now c.in_ok-live.live
-    c.args.queue.now c.requires.merges c.requires.queue (omega (arith, c.requires.sinks.some))
-    c.in_ok-live.ensures.early c.in_ok-live.ensures.live
+loop-node-init c = search (arith, sweep_starts)
 
 pub loop-node-preserved : goal.loop-node-preserved
 loop-node-preserved c = c.in_ok-sweep.ensures c.args.sinks.now c.loop-node.invariant
 
 pub loop-node-smaller : goal.loop-node-smaller
-loop-node-smaller c = omega (
-  arith,
-  c.loop-node-test.true,
-  c.count.ensures,
-  c.loop-node.invariant.live.count,
-  c.loop-node.invariant.rest,
-)
+loop-node-smaller c = search arith
 
 pub returns : goal.returns
 returns c =

@@ -25,14 +25,4 @@ returns-in-Sink c =
     sinks register none c.is_reach_from.result low denotes)
 
 pub returns-in-Root : goal.returns-in-Root
-returns-in-Root c =
-    let small = c.reach-reach.ensures.small in
-    let plain = to_z-of_z w128 c.reach-reach.result
-    (omega (arith, ints, small.above, small.below)) ∙ c.reach-reach.ensures.value in
-    let also_small = c.reach.ensures.small in
-    let also_plain = to_z-of_z w128 c.reach.result
-    (omega (arith, ints, also_small.above, also_small.below)) ∙ c.reach.ensures.value in
-    rw c.in-Root.is (
-      λ holds. sym plain ∙ c.are_same.ensures.0 holds ∙ also_plain,
-      λ same. c.are_same.ensures.1 (plain ∙ same ∙ sym also_plain),
-    )
+returns-in-Root c = search (arith, to_z-of_z, ints)

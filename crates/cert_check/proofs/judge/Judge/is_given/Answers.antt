@@ -11,13 +11,7 @@ gives_weight-requires c =
     (omega (arith, c.if-place-constraints.false))
 
 pub returns-then-place-constraints : goal.returns-then-place-constraints
-returns-then-place-constraints c =
-    let problem = c.args.self.now.problem.now in (
-      λ holds. subst (λ found. IfSome found (IsConstraintOf problem.circuit problem.tech))
-          (sym (slice_get_past c.args.constraints.now c.args.place
-          (omega (arith, c.if-place-constraints.true)))) tt,
-      λ given. search rules,
-    )
+returns-then-place-constraints c = search (arith, slice_get_past, rules)
 
 pub returns-else-place-constraints : goal.returns-else-place-constraints
 returns-else-place-constraints c =

@@ -5,10 +5,7 @@ use Rattle.cert_check.proofs.TailLemmas.{walked_next}
 use Rattle.cert_check.proofs.judge.Judge.judge_joins.Goals as goal
 
 pub holds_together-requires-clause-tails : goal.holds_together-requires-clause-tails
-holds_together-requires-clause-tails c place default within =
-    let low = (c.args.self.now.among place default within).tail in
-    let long = c.loop-place.invariant.long in
-    omega (arith, low, long, ap length c.as_slice.ensures.value)
+holds_together-requires-clause-tails c place default within = search arith
 
 pub loop-place-preserved : goal.loop-place-preserved
 loop-place-preserved c =

@@ -29,11 +29,7 @@ is_earliest-requires-clause-given c =
     ∙ ap tight_constraints c.as_slice-leads.ensures) c.is_given-given.ensures))
 
 pub loop-register-init : goal.loop-register-init
-loop-register-init c = record {
-  passed = refl;
-  few = omega arith;
-  each = λ place low. absurd (omega arith);
-}
+loop-register-init c = search arith
 
 pub loop-register-preserved : goal.loop-register-preserved
 loop-register-preserved c =
@@ -58,49 +54,10 @@ loop-register-preserved c =
     }
 
 pub returns-then-is_empty : goal.returns-then-is_empty
-returns-then-is_empty c place within second =
-    let self = c.args.self.now in
-    let report = self.report.now in
-    let none : length c.as_slice-leads.result.now ≡ 0 = search rules in
-    absurd (omega (
-      arith,
-      within,
-      none,
-      ap length c.as_slice-leads.ensures,
-      second_count report.version (length self.problem.now.circuit.registers)
-          (length report.leads) self.size.leads second,
-    ))
+returns-then-is_empty c place within second = search (arith, rules, second_count)
 
 pub returns-then-not-is_earliest : goal.returns-then-not-is_earliest
-returns-then-not-is_earliest c =
-    let self = c.args.self.now in
-    let report = self.report.now in
-    let register = c.loop-register.register in
-    let registers = length self.problem.now.circuit.registers in
-    let low = rw c.as_slice-leads.ensures at c.loop-register-test.true in
-    let second = listed_second report.version registers (length report.leads) register
-    self.size.leads low in
-    let count = listed_count report.version registers (length report.leads) register
-    self.size.leads low in (
-      register,
-      record {
-        within = omega (arith, low, count);
-        fails = λ holds. denied (Earliest self register) c.is_earliest.result
-            c.is_earliest.ensures c.if-not-is_earliest.true (holds second);
-        before = λ place earlier also. c.loop-register.invariant.each place earlier;
-      },
-      refl,
-    )
+returns-then-not-is_earliest c = search (arith, listed_second, listed_count, denied)
 
 pub returns : goal.returns
-returns c place within second =
-    let self = c.args.self.now in
-    let report = self.report.now in
-    c.loop-register.invariant.each place (omega (
-      arith,
-      within,
-      c.loop-register-test.false,
-      ap length c.as_slice-leads.ensures,
-      second_count report.version (length self.problem.now.circuit.registers)
-          (length report.leads) self.size.leads second,
-    ))
+returns c place within second = search (arith, second_count)

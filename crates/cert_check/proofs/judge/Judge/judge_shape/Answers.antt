@@ -19,14 +19,7 @@ returns-in_err-judge_merges-clause-shape c =
     c.as_slice.ensures c.in_err-judge_merges.ensures))
 
 pub returns-clause-shape : goal.returns-clause-shape
-returns-clause-shape c =
-    let self = c.args.self.now in
-    let report = self.report.now in
-    let join = subst (λ merges. AtEach (length merges) (JoinsAt (length self.sinks.now) merges))
-    c.as_slice.ensures c.in_ok-judge_merges.ensures in
-    source_decides self.sinks.now report.topology.merges self.source (embedding_of report.tree)
-    (omega (arith, self.size.merges, self.count)) c.in_ok-judge_sinks.ensures
-    c.judge_source.result join c.judge_source.ensures
+returns-clause-shape c = search (arith, source_decides)
 
 pub returns-clause-topology : goal.returns-clause-topology
 returns-clause-topology c =

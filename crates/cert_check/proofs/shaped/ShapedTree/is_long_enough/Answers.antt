@@ -4,9 +4,7 @@ use Rattle.cert_check.proofs.EdgeLemmas.{reaches_same}
 use Rattle.cert_check.proofs.shaped.ShapedTree.is_long_enough.Goals as goal
 
 pub reaches-requires-clause-parent : goal.reaches-requires-clause-parent
-reaches-requires-clause-parent c =
-    let self = c.args.self.now.judge in
-    omega (arith, c.parent_of.ensures.stands, self.size.places, self.count)
+reaches-requires-clause-parent c = search arith
 
 pub returns : goal.returns
 returns c =

@@ -21,34 +21,7 @@ is_over_both-requires-clause-second c =
     omega (arith, made, c.args.self.now.are.topology.all, c.requires)
 
 pub returns-then-is_over_both : goal.returns-then-is_over_both
-returns-then-is_over_both c =
-    let self = c.args.self.now.judge in
-    let tree = self.report.now.tree in
-    let node = length self.sinks.now + c.args.place in
-    let here = sym (rw c.as_slice.ensures at c.item_at-merge.ensures) in
-    let both = c.is_over_both.ensures.0 c.if-is_over_both.true in (
-      λ test. record {
-        first = subst (λ found. IfSome found (λ merge. IsReachOver tree node merge.first)) here
-            both.0;
-        second = subst (λ found. IfSome found (λ merge. IsReachOver tree node merge.second)) here
-            both.1;
-        shown = c.shows_merge.ensures.0 test;
-      },
-      λ shown. c.shows_merge.ensures.1 shown.shown,
-    )
+returns-then-is_over_both c = search arith
 
 pub returns-else-is_over_both : goal.returns-else-is_over_both
-returns-else-is_over_both c =
-    let self = c.args.self.now.judge in
-    let tree = self.report.now.tree in
-    let node = length self.sinks.now + c.args.place in
-    let merge = c.item_at-merge.result.now in
-    let here = rw c.as_slice.ensures at c.item_at-merge.ensures in (
-      λ holds. absurd (false≢true (sym c.if-is_over_both.false ∙ holds)),
-      λ shown. absurd (denied (IsReachOver tree node merge.first
-          × IsReachOver tree node merge.second) c.is_over_both.result c.is_over_both.ensures
-          c.if-is_over_both.false (
-            some_if _ (λ merge. IsReachOver tree node merge.first) merge shown.first here,
-            some_if _ (λ merge. IsReachOver tree node merge.second) merge shown.second here,
-          )),
-    )
+returns-else-is_over_both c = search (arith, denied, some_if)

@@ -4,13 +4,7 @@ use Rattle.cert_check.proofs.ReachLemmas.{Reached, merge_shown, source_shown}
 use Rattle.cert_check.proofs.shaped.ShapedTree.is_reach_shown.Goals as goal
 
 pub returns-then-node-sinks : goal.returns-then-node-sinks
-returns-then-node-sinks c =
-    let self = c.args.self.now.judge in
-    let both = source_shown self.sinks.now self.source self.report.now c.args.self.now.are.topology
-    c.args.node c.if-node-sinks.true in (
-      λ holds. both.0 (c.is_source_shown.ensures.0 holds),
-      λ shown. c.is_source_shown.ensures.1 (both.1 shown),
-    )
+returns-then-node-sinks c = search (arith, source_shown)
 
 pub returns-else-node-sinks : goal.returns-else-node-sinks
 returns-else-node-sinks c =

@@ -3,7 +3,8 @@ use Rattle.path_delays.proofs.Vocabulary.{◌≡◌, ◌<◌, ◌∙◌, ℕ, So
 use Rattle.path_delays.proofs.walk.Walk.walk_between.Goals as goal
 
 pub reach_up_to-requires-clause-registers : goal.reach_up_to-requires-clause-registers
-reach_up_to-requires-clause-registers c k d inside = grind (arith, length-take, get_or-take, get_or_default)
+reach_up_to-requires-clause-registers c k d inside =
+    grind (arith, length-take, get_or-take, get_or_default)
 
 pub returns-clause-reach : goal.returns-clause-reach
 returns-clause-reach c lane from to here =
