@@ -5,7 +5,7 @@ ghost use Rattle.schedule.specs.Schedules.{IsAdmittedBy, IsLeastScheduleOf};
 ghost use Rattle.cts_model.specs.timing.Schedules.{IsSmallPeriod, arrival_of};
 ghost use Rattle.cts_model.specs.timing.Leads.{EachLead, IsTight, depth_of, lead_at};
 
-use crate::gains::gains_of;
+use crate::least::gains_of;
 use crate::reach::Reach;
 use cts_base::{Fraction, Listed, NoMemory};
 use cts_model::{Constraint, Lead, Schedule};
