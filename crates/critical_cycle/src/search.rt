@@ -47,9 +47,8 @@ impl Search {
         requires first { CanTry measure first }
         requires parents { length relaxation.parents.items ≡ length relaxation.values.items }
         requires places { length places.items ≡ length relaxation.values.items }
-        ensures search { (constraints : List Constraint)
-            → AreSmallConstraints (length relaxation.values.items) constraints
-            → IsSearch constraints result }
+        ensures search { (constraints : List Constraint) → AreSmallConstraints
+            (length relaxation.values.items) constraints → IsSearch constraints result }
         ensures measure { result.measure ≡ measure }
         ensures first { result.first ≡ first }
         ensures registers { length result.relaxation.parents.items

@@ -81,10 +81,8 @@ impl Relaxation {
         ensures { IsTrue result → HaveOwnHeads constraints.now self.now.parents.items }
     {
         self.parents.iter().enumerate().all(|(register, place)| {
-            match constraints.get(*place as usize) {
-                Some(parent) => parent.head as usize == register,
-                None => true,
-            }
+            let parent = constraints.get(*place as usize);
+            parent.is_none_or(|parent| parent.head as usize == register)
         })
     }
 
