@@ -1,5 +1,4 @@
 -- Arrivals of 0 can be raised, and so can those that were.
-use Rattle.schedule.proofs.Vocabulary.{CanRaise}
 use Rattle.relaxation.proofs.RiseLemmas.{AreRaised-none}
 use Rattle.schedule.proofs.RiseLemmas.{CanRaise-raised, CanRaise-zero}
 use Rattle.schedule.proofs.least.least_arrivals.Goals as goal
