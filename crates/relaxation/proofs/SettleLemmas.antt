@@ -23,11 +23,10 @@ pub record IsSettling (constraints : List Constraint) (gains : Gains) (sweeps : 
   pub raised : AreRaisedBy constraints gains (sweeps * 2097152) begun now
 
 -- before the first sweep
-pub IsSettling-none : {constraints : List Constraint} {gains : Gains} {values : List ℤ}
-    (parents : List ℕ) → AreSmallConstraints (length values) constraints → length parents
-    ≡ length values → All (IsBelow (2 ^ 94)) values
-    → ((register : ℕ) → parent_of constraints parents register ≡ None)
-    → IsSettling constraints gains 0 values values parents
+pub IsSettling-none : {constraints : List Constraint} {gains : Gains}
+    {values : List ℤ} (parents : List ℕ) → AreSmallConstraints (length values) constraints
+    → length parents ≡ length values → All (IsBelow (2 ^ 94)) values → ((register : ℕ) → parent_of
+    constraints parents register ≡ None) → IsSettling constraints gains 0 values values parents
 IsSettling-none {constraints} {gains} {values} parents smalls long room none = record {
   smalls = smalls;
   long = long;
@@ -61,9 +60,8 @@ module _ {constraints : List Constraint} {gains : Gains} {sweeps : ℕ} {begun n
         → ReachesUp constraints next changed to → ⊥
     none_admitted admitted to reaches =
         let as_many : length now ≡ length next = omega (arith, long, settling.long) in
-        none_far_up constraints gains later next to
-        (subst (λ n. AreSmallConstraints n constraints) as_many settling.smalls)
-        swept.are_parents (record {
+        none_far_up constraints gains later next to (subst (λ n. AreSmallConstraints n constraints)
+        as_many settling.smalls) swept.are_parents (record {
           from = changed;
           above = reaches.0;
           long = reaches.1;

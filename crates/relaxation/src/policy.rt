@@ -57,8 +57,8 @@ impl Relaxation {
         None
     }
 
-    /// Lowers each register that has a parent, but for those that are marked as standing, so that it
-    /// rises again by its parent, where each register waits. Values are cut in size.
+    /// Lowers each register that has a parent and isn't marked as standing, so that it rises again
+    /// by its parent, where each register waits. Values are cut in size.
     pub(crate) fn lower(&mut self, constraints: &[Constraint], marks: &[u32], turns: &Turns)
         requires room { HasRoom constraints.now self.old }
         requires marks { length marks.now ≡ length self.old.values.items }

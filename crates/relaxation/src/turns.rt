@@ -92,8 +92,8 @@ impl Turns {
         self.strong.is_none_or(|strong| strong.has(constraint))
     }
 
-    /// The value from which registers rise by their parents: 0 where not all constraints are linked,
-    /// so that values lie near one another.
+    /// The value from which registers rise by their parents: 0 where not all constraints are
+    /// linked, so that values lie near one another.
     pub(crate) fn lowest(&self) -> i128 {
         if self.strong.is_some() { 0 } else { i128::MIN }
     }

@@ -20,7 +20,8 @@ climb-requires-clause-entries c =
 pub climb-requires-clause-from : goal.climb-requires-clause-from
 climb-requires-clause-from c =
     let settling = c.loop-changed.invariant.0 in
-    (swept_own c.sweep.ensures c.in-Some.changed c.in-Some.is settling.long settling.ready).changes.0
+    (swept_own c.sweep.ensures c.in-Some.changed c.in-Some.is settling.long
+    settling.ready).changes.0
 
 pub returns-in-Some-climb-clause-settled : goal.returns-in-Some-climb-clause-settled
 returns-in-Some-climb-clause-settled c =
