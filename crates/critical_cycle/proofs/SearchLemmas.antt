@@ -1,7 +1,5 @@
 -- What a trial and a raise leave shown.
-use Rattle.critical_cycle.proofs.Vocabulary.{ℕ, ◌≡◌, ◌<◌, ◌≤◌, ◌+◌, ◌*◌, ℤ, pos, neg_ℤ, ◌*ℤ◌, ◌≤ℤ◌, ◌<ℤ◌, List, Option, Some, None, refl, sym, subst, arith, false, MatchOption, nat_abs, mul-le-mul_left, ints, by_lt_z, Fraction, Constraint, AreSmallConstraints, IsCycle, Measure, Gains, AreWithin, constraints_at, CanTry, IsTrialAt, SatisfiesRatio, most_weight, IsRaise, ClosesWithNext, IsGreatestShown, IsRaisedBy, IsNeverAtAll, IsSettled, IsShown, raises_left, steps_below, SatisfiesGains, total_gain, up, down}
-use Rattle.critical_cycle.specs.declared.raise.Raise.{Raise}
-use Rattle.critical_cycle.specs.declared.raise.Raise.TheVariants as raise
+use Rattle.critical_cycle.proofs.Vocabulary.{ℕ, ◌≡◌, ◌<◌, ◌≤◌, ◌+◌, ◌*◌, ℤ, pos, neg_ℤ, ◌*ℤ◌, ◌≤ℤ◌, ◌<ℤ◌, List, Option, Some, None, refl, sym, subst, arith, false, MatchOption, nat_abs, mul-le-mul_left, ints, by_lt_z, Fraction, Constraint, AreSmallConstraints, IsCycle, Measure, Gains, AreWithin, constraints_at, CanTry, IsTrialAt, SatisfiesRatio, most_weight, IsRaise, ClosesWithNext, IsGreatestShown, IsNeverAtAll, IsSettled, IsShown, raises_left, steps_below, SatisfiesGains, total_gain, up, down}
 use Rattle.critical_cycle.specs.declared.shown.Shown.{Shown}
 use Rattle.critical_cycle.specs.declared.shown.Shown.TheVariants.{First, Value, Never}
 use Rattle.critical_cycle.proofs.MeasureLemmas.{satisfies_ratio, total_gain-sums}
@@ -74,13 +72,13 @@ left_at measure first Never ratio greatest = absurd greatest
 
 -- a ratio isn't enough for a cycle with a total above 0 at its trial
 pub not_kept : (measure : Measure) (ratio : Fraction) (trial : Gains) (steps : List Constraint)
-    (says : Raise) → IsTrialAt measure ratio trial → pos 0 <ℤ total_gain trial steps
-    → IsRaise measure ratio steps says → says ≡ raise.Keep → ⊥
-not_kept measure ratio trial steps raise.Keep at gains keep is =
+    (says : Shown) → IsTrialAt measure ratio trial → pos 0 <ℤ total_gain trial steps
+    → IsRaise measure ratio steps says → says ≡ First → ⊥
+not_kept measure ratio trial steps First at gains keep is =
     let total = total_gain-sums at steps in
     omega (arith, ints)
-not_kept measure ratio trial steps (raise.To value) at gains to is = cc
-not_kept measure ratio trial steps raise.Never at gains never is = cc
+not_kept measure ratio trial steps (Value value) at gains to is = cc
+not_kept measure ratio trial steps Never at gains never is = cc
 
 -- a ratio that is shown can be tried
 pub can_try : (measure : Measure) (constraints : List Constraint) (first : Fraction)
@@ -94,17 +92,16 @@ can_try measure constraints first cycle Never ratio small is greatest = absurd g
 
 -- a cycle that the ratio isn't enough for shows more, and leaves fewer raises
 pub raise_shows : (measure : Measure) (constraints : List Constraint)
-    (first : Fraction) (before cycle : List ℕ) (old new : Shown) (ratio : Fraction) (says : Raise)
+    (first : Fraction) (before cycle : List ℕ) (old new : Shown) (ratio : Fraction)
     → CanTry measure first → IsShown measure constraints first before old → IsGreatestShown
     first old ratio → AreWithin constraints cycle → IsCycle (constraints_at constraints cycle)
-    → (says ≡ raise.Keep → ⊥) → IsRaise measure ratio (constraints_at constraints cycle) says
-    → IsRaisedBy says old new → IsShown measure constraints first cycle new
+    → (new ≡ First → ⊥) → IsRaise measure ratio (constraints_at constraints cycle) new
+    → IsShown measure constraints first cycle new
     × (raises_left measure first new < raises_left measure first old)
-raise_shows measure constraints first before cycle old new ratio raise.Keep small is greatest
-    within is_cycle goes_on keep by =
-    absurd (goes_on refl)
-raise_shows measure constraints first before cycle old new ratio (raise.To value) small is greatest
-    within is_cycle goes_on to by =
+raise_shows measure constraints first before cycle old First ratio small is greatest within is_cycle
+    goes_on keep = absurd (goes_on refl)
+raise_shows measure constraints first before cycle old (Value value) ratio small is greatest within
+    is_cycle goes_on to =
     let low = first_below measure constraints first before old ratio is greatest in
     let valid = can_try measure constraints first before old ratio small is greatest in
     let size = size_is value.den to.valid.proper in
@@ -115,8 +112,7 @@ raise_shows measure constraints first before cycle old new ratio (raise.To value
     (rw (ratio_size, first_size) low) (rw (size, ratio_size) to.above) in
     let less = steps_below-less (most_weight measure.scale measure.period) ratio.num ratio.den
     value.num value.den (some_weight _ _ small.above small.below) valid.proper valid.low
-    to.valid.proper to.valid.low valid.below to.valid.below to.above in
-    rw by (
+    to.valid.proper to.valid.low valid.below to.valid.below to.above in (
       record {
         within = within;
         shows = record { is_cycle = is_cycle; counts = to.counts; value = to.value_is };
@@ -129,9 +125,8 @@ raise_shows measure constraints first before cycle old new ratio (raise.To value
     -- what a number lies within isn't below 0
     some_weight : (num most : ℤ) → neg_ℤ most ≤ℤ num → num ≤ℤ most → pos 0 ≤ℤ most
     some_weight num most above below = omega (arith, ints)
-raise_shows measure constraints first before cycle old new ratio raise.Never small is greatest
-    within is_cycle goes_on never by =
-    rw by (
+raise_shows measure constraints first before cycle old Never ratio small is greatest within is_cycle
+    goes_on never = (
       record {
         within = within;
         forbids = record { is_cycle = is_cycle; counts = never.counts; weighs = never.weighs };

@@ -5,8 +5,8 @@ use Rattle.cts_base.specs.declared.fraction.Fraction.{Fraction}
 use Rattle.cts_model.specs.declared.constraint.Constraint.{Constraint}
 use Rattle.critical_cycle.specs.declared.measure.Measure.{Measure}
 use Rattle.critical_cycle.specs.Measures.{CanTry, cycle_count, cycle_weight}
-use Rattle.critical_cycle.specs.declared.raise.Raise.{Raise}
-use Rattle.critical_cycle.specs.declared.raise.Raise.TheVariants.{Keep, To, Never}
+use Rattle.critical_cycle.specs.declared.shown.Shown.{Shown}
+use Rattle.critical_cycle.specs.declared.shown.Shown.TheVariants.{First, Value, Never}
 
 -- the constraints count, and their ratio is this value, greater than the one that is tried
 pub record IsRaisedTo (measure : Measure) (ratio : Fraction) (steps : List Constraint)
@@ -23,8 +23,8 @@ pub record NeverCounts (measure : Measure) (steps : List Constraint) : Type 0 wh
   pub weighs : pos 0 <ℤ cycle_weight measure steps
 
 -- the ratio that is tried is enough for the cycle, or the cycle's is greater, or none is enough
-abbrev pub IsRaise : Measure → (ratio : Fraction) → List Constraint → Raise → Type 0
-IsRaise measure ratio steps Keep = (ratio.den *ℤ cycle_weight measure steps)
+abbrev pub IsRaise : Measure → (ratio : Fraction) → List Constraint → Shown → Type 0
+IsRaise measure ratio steps First = (ratio.den *ℤ cycle_weight measure steps)
     ≤ℤ (ratio.num *ℤ pos (cycle_count measure steps))
-IsRaise measure ratio steps (To value) = IsRaisedTo measure ratio steps value
+IsRaise measure ratio steps (Value value) = IsRaisedTo measure ratio steps value
 IsRaise measure ratio steps Never = NeverCounts measure steps

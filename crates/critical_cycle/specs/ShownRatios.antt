@@ -8,8 +8,6 @@ use Rattle.critical_cycle.specs.Measures.{CanTry, ForbidsRatios, SatisfiesRatio,
 use Rattle.critical_cycle.specs.declared.measure.Measure.{Measure}
 use Rattle.critical_cycle.specs.declared.shown.Shown.{Shown}
 use Rattle.critical_cycle.specs.declared.shown.Shown.TheVariants.{First, Value, Never}
-use Rattle.critical_cycle.specs.declared.raise.Raise.{Raise}
-use Rattle.critical_cycle.specs.declared.raise.Raise.TheVariants as raise
 
 -- a cycle at these places shows the value, which is above the first ratio
 pub record IsValueShown (measure : Measure) (constraints : List Constraint) (first : Fraction)
@@ -66,9 +64,3 @@ raises_left measure first First =
 raises_left measure first (Value value) =
     1 + steps_below (most_weight measure.scale measure.period) value.num value.den
 raises_left measure first Never = 0
-
--- what a cycle says of the greatest ratio shown is shown next
-abbrev pub IsRaisedBy : Raise → (old new : Shown) → Type 0
-IsRaisedBy raise.Keep old new = new ≡ old
-IsRaisedBy (raise.To value) old new = new ≡ Value value
-IsRaisedBy raise.Never old new = new ≡ Never

@@ -5,28 +5,19 @@ ghost use Rattle.critical_cycle.specs.Measures.{CanTry};
 ghost use Rattle.critical_cycle.specs.Raises.{IsRaise};
 
 use crate::measure::Measure;
+use crate::shown::Shown;
 use crate::sums::Sums;
 use cts_base::Fraction;
 use cts_model::Constraint;
 
-/// What a cycle says of a ratio that is tried.
-#[derive(Clone, Copy, Debug)]
-pub(crate) enum Raise {
-    /// The ratio is enough for it.
-    Keep,
-    /// Its own ratio is greater: this one.
-    To(Fraction),
-    /// No ratio is enough.
-    Never,
-}
-
-/// What the cycle with constraints at these places says of a ratio.
+/// What the cycle with constraints at these places shows where a ratio is the first: nothing, its
+/// own ratio if that is greater, or that no ratio is enough.
 pub(crate) fn raise_by(
     measure: Measure,
     ratio: Fraction,
     constraints: &[Constraint],
     cycle: &[u32],
-) -> Raise
+) -> Shown
     requires ratio { CanTry measure ratio }
     requires within { AreWithin constraints.now cycle.now }
     requires few { length cycle.now ≤ 4097 }
@@ -35,10 +26,10 @@ pub(crate) fn raise_by(
 {
     let sums = Sums::of(constraints, cycle).measured(measure, cycle.len());
     if !sums.exceed(ratio) {
-        return Raise::Keep;
+        return Shown::First;
     }
     if sums.count == 0 {
-        return Raise::Never;
+        return Shown::Never;
     }
-    Raise::To(Fraction::of(sums.weight, sums.count))
+    Shown::Value(Fraction::of(sums.weight, sums.count))
 }

@@ -58,9 +58,8 @@ fn place_of_lowest(cycle: &[u32], constraints: &[Constraint]) -> usize
     requires within { AreWithin constraints.now cycle.now }
     requires some { 0 < length cycle.now }
     ensures within { result < length cycle.now }
-    ensures lowest { (other : ℕ) → other < length cycle.now
-        → tail_at constraints.now (slice_index cycle.now result)
-        ≤ tail_at constraints.now (slice_index cycle.now other) }
+    ensures lowest { (other : ℕ) → other < length cycle.now → tail_at constraints.now
+        (slice_index cycle.now result) ≤ tail_at constraints.now (slice_index cycle.now other) }
 {
     let mut lowest = 0;
     for place in 0..cycle.len() {

@@ -9,7 +9,7 @@ ghost use Rattle.critical_cycle.specs.Searches.{ClosesWithNext, IsAtRing, IsAtSh
 ghost use Rattle.critical_cycle.specs.ShownRatios.{IsNeverAtAll, IsSettled, raises_left};
 
 use crate::measure::Measure;
-use crate::raise::{Raise, raise_by};
+use crate::raise::raise_by;
 use crate::ring::go_round;
 use crate::shown::Shown;
 use cts_base::Fraction;
@@ -47,9 +47,8 @@ impl Search {
         requires first { CanTry measure first }
         requires parents { length relaxation.parents.items ≡ length relaxation.values.items }
         requires places { length places.items ≡ length relaxation.values.items }
-        ensures search { (constraints : List Constraint)
-            → AreSmallConstraints (length relaxation.values.items) constraints
-            → IsSearch constraints result }
+        ensures search { (constraints : List Constraint) → AreSmallConstraints
+            (length relaxation.values.items) constraints → IsSearch constraints result }
         ensures measure { result.measure ≡ measure }
         ensures first { result.first ≡ first }
         ensures registers { length result.relaxation.parents.items
@@ -101,7 +100,11 @@ impl Search {
         self.relaxation
             .choose_parents(constraints, self.trial, turns);
         for _round in 0..ROUNDS {
-            if !self.reach_shown() || self.is_through(constraints, turns) {
+            if !self.reach_shown() {
+                return;
+            }
+            let values = self.relaxation.values.as_slice();
+            if turns.are_through(constraints, self.trial, values) {
                 return;
             }
             self.improve(constraints, marks, turns);
@@ -139,13 +142,7 @@ impl Search {
         let parents = self.relaxation.parents.as_slice();
         self.start = go_round(&mut self.places, constraints, parents, register);
         let cycle = self.places.split_at(self.start).1;
-        let raise = raise_by(self.measure, self.ratio, constraints, cycle);
-        self.shown = self.shown.raised(raise);
-    }
-
-    // Whether the values satisfy the constraints, as far as turns tell.
-    fn is_through(&self, constraints: &[Constraint], turns: &mut Turns) -> bool {
-        turns.are_through(constraints, self.trial, self.relaxation.values.as_slice())
+        self.shown = raise_by(self.measure, self.ratio, constraints, cycle);
     }
 
     // Brings the relaxation to the greatest ratio shown, if some ratio may be enough.
@@ -273,12 +270,12 @@ impl Search {
         let Some(ratio) = self.shown.ratio(self.first) else {
             return;
         };
-        let raise = raise_by(self.measure, ratio, constraints, cycle);
-        if let Raise::Keep = raise {
+        let shown = raise_by(self.measure, ratio, constraints, cycle);
+        if let Shown::First = shown {
             return;
         }
         self.start = put_last(&mut self.places, cycle);
-        self.shown = self.shown.raised(raise);
+        self.shown = shown;
     }
 }
 

@@ -1,7 +1,6 @@
 ghost use Rattle.std.specs.Prelude.{MatchOption};
-ghost use Rattle.critical_cycle.specs.ShownRatios.{IsGreatestShown, IsNeverAtAll, IsRaisedBy};
+ghost use Rattle.critical_cycle.specs.ShownRatios.{IsGreatestShown, IsNeverAtAll};
 
-use crate::raise::Raise;
 use cts_base::Fraction;
 
 /// What a search for the greatest ratio has shown so far.
@@ -24,17 +23,6 @@ impl Shown {
             Shown::First => Some(first),
             Shown::Value(value) => Some(value),
             Shown::Never => None,
-        }
-    }
-
-    /// What is shown where a cycle says this of the greatest ratio shown.
-    pub(crate) fn raised(self, raise: Raise) -> Shown
-        ensures { IsRaisedBy raise self result }
-    {
-        match raise {
-            Raise::Keep => self,
-            Raise::To(value) => Shown::Value(value),
-            Raise::Never => Shown::Never,
         }
     }
 }

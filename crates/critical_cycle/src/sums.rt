@@ -78,16 +78,9 @@ impl Sums {
     {
         Sums {
             weight: self.weight + constraint.weight,
-            count: self.count + count_of(constraint),
+            count: self.count + if constraint.setup { 1 } else { 0 },
         }
     }
-}
-
-// How often a constraint counts the period.
-fn count_of(constraint: &Constraint) -> i128
-    ensures { result ≡ pos (count_of constraint.now) }
-{
-    if constraint.setup { 1 } else { 0 }
 }
 
 /// The product of two numbers.

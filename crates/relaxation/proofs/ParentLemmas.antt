@@ -88,8 +88,7 @@ module _ {constraints : List Constraint} {gains : Gains} {constraint : Constrain
         × (value_of values from ≤ℤ (value_of values to +ℤ total_gain gains above)))
     climb_gains from [] to same = inr (
       same,
-      subst (λ r. value_of values from ≤ℤ (value_of values r +ℤ pos 0)) same
-          (omega (arith, ints)),
+      subst (λ r. value_of values from ≤ℤ (value_of values r +ℤ pos 0)) same (omega (arith, ints)),
     )
     climb_gains from (parent ∷ above) to (here, climb) =
         joined (gave from parent here) (climb_gains parent.tail above to climb)
@@ -106,7 +105,8 @@ module _ {constraints : List Constraint} {gains : Gains} {constraint : Constrain
         joined (inl less) (inl rest) = inl (omega (arith, ints))
         joined (inl less) (inr rest) = inl (omega (arith, ints, rest.1))
         joined (inr first) (inl rest) = inl (omega (arith, ints, first.1))
-        joined (inr first) (inr rest) = inr ((first.0, rest.0), omega (arith, ints, first.1, rest.1))
+        joined
+            (inr first) (inr rest) = inr ((first.0, rest.0), omega (arith, ints, first.1, rest.1))
 
     -- the parents are parents still
     pub AreParents-raise : AreParents constraints gains later later_parents

@@ -12,10 +12,9 @@ pub record IsPrepared (count : ℕ) (begun now : Relaxation) : Type 0 where
 
 -- one more value is small
 pub IsPrepared-more : {register : ℕ} {value : ℤ} {begun now later : Relaxation}
-    → register < length begun.values.items
-    → later.values.items ≡ set now.values.items register (kept value)
-    → later.parents.items ≡ now.parents.items → IsBelow (2 ^ 88) value
-    → IsPrepared register begun now → IsPrepared (register + 1) begun later
+    → register < length begun.values.items → later.values.items
+    ≡ set now.values.items register (kept value) → later.parents.items ≡ now.parents.items
+    → IsBelow (2 ^ 88) value → IsPrepared register begun now → IsPrepared (register + 1) begun later
 IsPrepared-more {register} {value} {begun} {now} {later} inside values parents small prepared =
     record {
       values = ap length values ∙ length-set now.values.items register (kept value)
@@ -23,9 +22,8 @@ IsPrepared-more {register} {value} {begun} {now} {later} inside values parents s
       parents = parents ∙ prepared.parents;
       small = λ other default before within. rw values (at_set (λ r z. r < register + 1
           → r < length now.values.items → IsBelow (2 ^ 88) z) now.values.items register (kept value)
-          default (omega (arith, prepared.values)) (λ early known. rw read small)
-          (λ r apart early known. prepared.small r default (omega (arith, early, apart)) known)
-          other before (omega (
+          default (omega (arith, prepared.values)) (λ early known. rw read small) (λ r apart early
+          known. prepared.small r default (omega (arith, early, apart)) known) other before (omega (
             arith,
             ap length values,
             length-set now.values.items register (kept value),

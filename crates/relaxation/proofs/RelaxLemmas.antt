@@ -1,5 +1,5 @@
 -- What looking at one constraint makes of the values and the parents.
-use Rattle.relaxation.proofs.Vocabulary.{◌≡◌, ◌<◌, ◌^◌, ◌∙◌, ℕ, ℤ, pos, ◌+ℤ◌, ◌≤ℤ◌, ◌<ℤ◌, true, false, List, length, get_or, All, Some, None, IfSome, sym, subst, ap, FitsSigned, arith, slice_get, w128, get_or_read, ints, Constraint, AreSmallConstraints, IsBelow, Gains, Relaxation, gain_of, value_of, offer_of, GivesMore, IsLeft, IsRaised, IsRelaxed}
+use Rattle.relaxation.proofs.Vocabulary.{◌≡◌, ◌<◌, ◌^◌, ◌∙◌, ℕ, ℤ, pos, ◌+ℤ◌, ◌≤ℤ◌, ◌<ℤ◌, true, false, List, length, get_or, All, sym, subst, ap, FitsSigned, arith, w128, get_or_read, ints, Constraint, AreSmallConstraints, IsBelow, Gains, gain_of, value_of, offer_of, GivesMore}
 use Rattle.relaxation.proofs.GainLemmas.{kept}
 use lib.Signed.{le_z}
 
@@ -105,18 +105,3 @@ module _ {gains : Gains} {constraint : Constraint} {values : List ℤ} {from gai
       let high = test_false _ to offer_small to_small fails in
       subst (λ z. value_of values constraint.head <ℤ z) offer_read
       (subst (λ z. z <ℤ kept (kept from +ℤ kept gain)) to_value high)
-
--- the step where nothing changes
-pub relaxed_left : (constraints : List Constraint) (gains : Gains) (place : ℕ)
-    (constraint : Constraint) (old new : Relaxation) → slice_get constraints place ≡ Some constraint
-    → IsLeft gains constraint old new → IsRelaxed constraints gains place old None new
-relaxed_left constraints gains place constraint old new here left =
-    subst (λ o. IfSome o (λ (it : Constraint). IsLeft gains it old new)) (sym here) left
-
--- the step where the head changes
-pub relaxed_raised : (constraints : List Constraint) (gains : Gains) (place : ℕ)
-    (constraint : Constraint) (old new : Relaxation) (register : ℕ) → slice_get constraints place
-    ≡ Some constraint → IsRaised gains place constraint old register new
-    → IsRelaxed constraints gains place old (Some register) new
-relaxed_raised constraints gains place constraint old new register here raised = subst (λ
-    o. IfSome o (λ (it : Constraint). IsRaised gains place it old register new)) (sym here) raised

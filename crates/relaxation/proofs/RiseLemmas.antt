@@ -110,9 +110,9 @@ module _ (gains : Gains) (values : List ℤ) (it : Constraint)
   each : (P : ℕ → ℤ → Type 0) → P it.head (offer_of gains values it) → ((register : ℕ)
       → register < length values → P register (value_of values register)) → (register : ℕ)
       → register < length raised_values → P register (value_of raised_values register)
-  each P at_head elsewhere register within = at_set (λ r z. r < length values → P r z) values it.head
-      (offer_of gains values it) (pos 0) small.head (λ known. at_head)
-      (λ r apart known. elsewhere r known) register (omega (arith, long))
+  each P at_head elsewhere register within = at_set (λ r z. r < length values → P r z)
+      values it.head (offer_of gains values it) (pos 0) small.head
+      (λ known. at_head) (λ r apart known. elsewhere r known) register (omega (arith, long))
 
   -- one raise
   pub AreRaisedBy-one : (constraints : List Constraint) (place : ℕ) → slice_get constraints place

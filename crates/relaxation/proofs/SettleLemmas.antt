@@ -1,9 +1,9 @@
 -- Sweeps by turns: each that changes something raises one more parent above the register that
 -- changed last.
-use Rattle.relaxation.proofs.Vocabulary.{◌≡◌, ◌<◌, ◌≤◌, ◌+◌, ◌*◌, ◌^◌, ◌∙◌, ℕ, ℤ, List, length, replicate, All, true, false, Option, Some, None, ◌⊎◌, inl, inr, sym, subst, refl, arith, ⊤, is_some, cases_lt, length-replicate, Constraint, IsBelow, AreSmallConstraints, Gains, Relaxation, AdmitsGains, SatisfiesGains, ReachesUp, parent_of, value_of, IsFarUp, AreRaisedBy, IsReady, IsSwept, IsSweep}
+use Rattle.relaxation.proofs.Vocabulary.{◌≡◌, ◌<◌, ◌≤◌, ◌+◌, ◌*◌, ◌^◌, ℕ, ℤ, List, length, replicate, All, true, false, Option, Some, None, ◌⊎◌, inl, inr, sym, subst, refl, arith, ⊤, is_some, cases_lt, length-replicate, Constraint, IsBelow, AreSmallConstraints, Gains, Relaxation, AdmitsGains, SatisfiesGains, ReachesUp, parent_of, value_of, IsFarUp, AreRaisedBy, IsReady, IsSwept, IsSweep}
 use Rattle.relaxation.proofs.Climbs.{none_far_up}
 use Rattle.relaxation.proofs.PrepareLemmas.{no_parents}
-use Rattle.relaxation.proofs.RiseLemmas.{AreRaisedBy-none, AreRaisedBy-more, small_raised}
+use Rattle.relaxation.proofs.RiseLemmas.{AreRaisedBy-none, AreRaisedBy-more, small_raised, small_wider}
 use Rattle.relaxation.proofs.SweepLemmas.{IsReady-first, IsReady-next, SatisfiesGains-swept, parents_above}
 
 -- what isn't some answer is none
@@ -14,53 +14,44 @@ is_none (Some register) none = cc
 -- after so many sweeps, which are fewer than the registers, with parents that are kept or not
 pub record IsSettling (constraints : List Constraint) (gains : Gains) (sweeps : ℕ)
     (begun now : List ℤ) (parents : List ℕ) : Type 0 where
-  pub long : length parents ≡ length begun
-  pub few : sweeps < length begun
+  pub smalls : AreSmallConstraints (length now) constraints
+  pub long : length parents ≡ length now
+  pub few : sweeps < length now
+  pub room : All (IsBelow (2 ^ 94)) begun
+  pub small : All (IsBelow (2 ^ 114)) now
   pub ready : IsReady constraints gains (sweeps + 1) now parents
   pub raised : AreRaisedBy constraints gains (sweeps * 2097152) begun now
 
 -- before the first sweep
-pub IsSettling-none : (constraints : List Constraint) (gains : Gains) (values : List ℤ)
-    (parents : List ℕ) → AreSmallConstraints (length values) constraints → length parents
-    ≡ length values → ((register : ℕ) → parent_of constraints parents register ≡ None)
-    → IsSettling constraints gains 0 values values parents
-IsSettling-none constraints gains values parents smalls long none = record {
+pub IsSettling-none : {constraints : List Constraint} {gains : Gains}
+    {values : List ℤ} (parents : List ℕ) → AreSmallConstraints (length values) constraints
+    → length parents ≡ length values → All (IsBelow (2 ^ 94)) values → ((register : ℕ) → parent_of
+    constraints parents register ≡ None) → IsSettling constraints gains 0 values values parents
+IsSettling-none {constraints} {gains} {values} parents smalls long room none = record {
+  smalls = smalls;
   long = long;
   few = omega (arith, smalls.some);
+  room = room;
+  small = small_wider (2 ^ 94) (2 ^ 114) values (omega arith) room;
   ready = IsReady-first constraints gains values parents none;
   raised = AreRaisedBy-none 0 values;
 }
 
 -- and where none are kept
-pub IsSettling-unkept : (constraints : List Constraint) (gains : Gains) (values : List ℤ)
-    → AreSmallConstraints (length values) constraints
+pub IsSettling-unkept : {constraints : List Constraint} {gains : Gains} {values : List ℤ}
+    → AreSmallConstraints (length values) constraints → All (IsBelow (2 ^ 94)) values
     → IsSettling constraints gains 0 values values (replicate (length values) 4294967295)
-IsSettling-unkept constraints gains values smalls =
-    IsSettling-none constraints gains values (replicate (length values) 4294967295) smalls
-    (length-replicate {A = ℕ} (length values) 4294967295)
+IsSettling-unkept {constraints} {gains} {values} smalls room =
+    IsSettling-none (replicate (length values) 4294967295) smalls
+    (length-replicate {A = ℕ} (length values) 4294967295) room
     (λ register. no_parents (length values) constraints register smalls.few)
 
 module _ {constraints : List Constraint} {gains : Gains} {sweeps : ℕ} {begun now : List ℤ}
-    {parents : List ℕ} (smalls : AreSmallConstraints (length begun) constraints)
-    (settling : IsSettling constraints gains sweeps begun now parents) where
-  -- the constraints are between these registers
-  pub smalls_settling : AreSmallConstraints (length now) constraints
-  smalls_settling =
-      subst (λ n. AreSmallConstraints n constraints) (sym settling.raised.raised.registers) smalls
-
-  -- there is a parent for each of them
-  pub long_settling : length parents ≡ length now
-  long_settling = settling.long ∙ sym settling.raised.raised.registers
-
-  -- the values are small
-  pub small_settling : All (IsBelow (2 ^ 94)) begun → All (IsBelow (2 ^ 114)) now
-  small_settling = small_raised (2 ^ 94) (2 ^ 114)
-      (omega (arith, settling.few, smalls.not_many)) settling.raised
-
+    {parents : List ℕ} (settling : IsSettling constraints gains sweeps begun now parents) where
   -- after one more sweep the values are raised so often
   pub raised_later : {later : List ℤ} → AreRaisedBy constraints gains (length constraints) now later
       → AreRaisedBy constraints gains ((sweeps + 1) * 2097152) begun later
-  raised_later raised = AreRaisedBy-more (omega (arith, smalls.few)) settling.raised raised
+  raised_later raised = AreRaisedBy-more (omega (arith, settling.smalls.few)) settling.raised raised
 
   module _ {later : List ℤ} {next : List ℕ} {changed : ℕ} (long : length next ≡ length parents)
       (swept : IsSwept constraints gains (sweeps + 1) (Some changed) later next) where
@@ -68,9 +59,9 @@ module _ {constraints : List Constraint} {gains : Gains} {sweeps : ℕ} {begun n
     pub none_admitted : AdmitsGains constraints gains → (to : ℕ)
         → ReachesUp constraints next changed to → ⊥
     none_admitted admitted to reaches =
-        let as_many : length begun ≡ length next = omega (arith, long, settling.long) in
-        none_far_up constraints gains later next to
-        (subst (λ n. AreSmallConstraints n constraints) as_many smalls) swept.are_parents (record {
+        let as_many : length now ≡ length next = omega (arith, long, settling.long) in
+        none_far_up constraints gains later next to (subst (λ n. AreSmallConstraints n constraints)
+        as_many settling.smalls) swept.are_parents (record {
           from = changed;
           above = reaches.0;
           long = reaches.1;
@@ -78,12 +69,11 @@ module _ {constraints : List Constraint} {gains : Gains} {sweeps : ℕ} {begun n
         }) admitted
 
     -- and where none does, there are fewer sweeps still than registers
-    fewer : ((to : ℕ) → ReachesUp constraints next changed to → ⊥) → sweeps + 1 < length begun
-    fewer stops = by_count (cases_lt (sweeps + 1) (length begun))
+    fewer : ((to : ℕ) → ReachesUp constraints next changed to → ⊥) → sweeps + 1 < length now
+    fewer stops = by_count (cases_lt (sweeps + 1) (length now))
       where
         -- with as many sweeps as registers there would be such a climb
-        by_count : (sweeps + 1 < length begun) ⊎ (length begun ≤ sweeps + 1)
-            → sweeps + 1 < length begun
+        by_count : (sweeps + 1 < length now) ⊎ (length now ≤ sweeps + 1) → sweeps + 1 < length now
         by_count (inl below) = below
         by_count (inr reached) =
             let found = parents_above constraints gains (sweeps + 1) (λ place. ⊤) (Some changed)
@@ -95,12 +85,19 @@ module _ {constraints : List Constraint} {gains : Gains} {sweeps : ℕ} {begun n
     pub IsSettling-more : AreRaisedBy constraints gains (length constraints) now later
         → ((to : ℕ) → ReachesUp constraints next changed to → ⊥)
         → IsSettling constraints gains (sweeps + 1) begun later next
-    IsSettling-more raised stops = record {
-      long = long ∙ settling.long;
-      few = fewer stops;
-      ready = IsReady-next constraints gains (sweeps + 1) changed later next swept;
-      raised = raised_later raised;
-    }
+    IsSettling-more raised stops =
+        let registers = raised.raised.registers in
+        let goes_on = fewer stops in
+        record {
+          smalls = subst (λ n. AreSmallConstraints n constraints) (sym registers) settling.smalls;
+          long = omega (arith, long, settling.long, registers);
+          few = omega (arith, goes_on, registers);
+          room = settling.room;
+          small = small_raised (2 ^ 94) (2 ^ 114) (omega (arith, goes_on, settling.smalls.not_many))
+              (raised_later raised) settling.room;
+          ready = IsReady-next constraints gains (sweeps + 1) changed later next swept;
+          raised = raised_later raised;
+        }
 
 module _ {constraints : List Constraint} {gains : Gains} {sweep : ℕ} {old new : Relaxation}
     {answer : Option ℕ} (swept : IsSweep constraints gains old answer new) where
@@ -141,16 +138,15 @@ module _ {constraints : List Constraint} {gains : Gains} {sweep : ℕ} {old new 
 
 -- where some values satisfy the constraints, sweeps go on while they change something
 pub IsSettling-admitted : {constraints : List Constraint} {gains : Gains} {sweeps : ℕ}
-    {begun : List ℤ} {now later : Relaxation} {parents : List ℕ}
-    (smalls : AreSmallConstraints (length begun) constraints) → AdmitsGains constraints gains
+    {begun : List ℤ} {now later : Relaxation} {parents : List ℕ} → AdmitsGains constraints gains
     → (settling : IsSettling constraints gains sweeps begun now.values.items parents)
     → (answer : Option ℕ) → is_some answer ≡ true → IsSweep constraints gains now answer later
     → (next : List ℕ) × IsSettling constraints gains (sweeps + 1) begun later.values.items next
-IsSettling-admitted {sweeps = sweeps} {parents = parents} smalls admitted settling (Some changed)
-    some swept =
-    let left = swept.swept (sweeps + 1) parents (long_settling smalls settling) settling.ready in (
+IsSettling-admitted {sweeps = sweeps} {parents = parents} admitted settling (Some changed) some
+    swept =
+    let left = swept.swept (sweeps + 1) parents settling.long settling.ready in (
       left.later,
-      IsSettling-more smalls settling left.long left.sweeping swept.raised
-          (none_admitted smalls settling left.long left.sweeping admitted),
+      IsSettling-more settling left.long left.sweeping swept.raised
+          (none_admitted settling left.long left.sweeping admitted),
     )
-IsSettling-admitted smalls admitted settling None some swept = cc
+IsSettling-admitted admitted settling None some swept = cc

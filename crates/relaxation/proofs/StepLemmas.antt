@@ -36,24 +36,24 @@ module _ {constraints : List Constraint} (gains : Gains) {place : ℕ} (old new 
       answer new)) here relaxed
 
   -- the parents keep their length
-  parents_length : (answer : Option ℕ) → IsLook gains place (get_or constraints place nowhere) old answer new
-      → length new.parents.items ≡ length old.parents.items
+  parents_length : (answer : Option ℕ) → IsLook gains place (get_or constraints place nowhere)
+      old answer new → length new.parents.items ≡ length old.parents.items
   parents_length None left = ap length left.parents
-  parents_length (Some register) raised =
-      ap length raised.parents ∙ length-set old.parents.items (get_or constraints place nowhere).head place
+  parents_length (Some register) raised = ap length raised.parents
+      ∙ length-set old.parents.items (get_or constraints place nowhere).head place
 
   -- (get_or constraints place nowhere) is at most one raise
-  raised_look : (answer : Option ℕ) → IsLook gains place (get_or constraints place nowhere) old answer new
-      → AreRaisedBy constraints gains 1 old.values.items new.values.items
+  raised_look : (answer : Option ℕ) → IsLook gains place (get_or constraints place nowhere)
+      old answer new → AreRaisedBy constraints gains 1 old.values.items new.values.items
   raised_look None left = subst (AreRaisedBy constraints gains 1 old.values.items) (sym left.values)
       (AreRaisedBy-none 1 old.values.items)
-  raised_look (Some register) raised =
-      subst (AreRaisedBy constraints gains 1 old.values.items) (sym raised.values)
-      (AreRaisedBy-one gains old.values.items (get_or constraints place nowhere) small constraints place here raised.more)
+  raised_look (Some register) raised = subst
+      (AreRaisedBy constraints gains 1 old.values.items) (sym raised.values) (AreRaisedBy-one gains
+      old.values.items (get_or constraints place nowhere) small constraints place here raised.more)
 
   -- one more place is seen
-  sweeping_look : (answer : Option ℕ) → IsLook gains place (get_or constraints place nowhere) old answer new
-      → (sweep : ℕ) {Seen : ℕ → Type 0} (Later : ℕ → Type 0) (changed : Option ℕ)
+  sweeping_look : (answer : Option ℕ) → IsLook gains place (get_or constraints place nowhere)
+      old answer new → (sweep : ℕ) {Seen : ℕ → Type 0} (Later : ℕ → Type 0) (changed : Option ℕ)
       → ((other : ℕ) → Later other → (Seen other) ⊎ (other ≡ place))
       → (parents : List ℕ) → length parents ≡ length old.values.items
       → IsSweeping constraints gains sweep Seen changed old.values.items parents
@@ -62,30 +62,33 @@ module _ {constraints : List Constraint} (gains : Gains) {place : ℕ} (old new 
     later = parents;
     long = refl;
     kept = λ own. own ∙ sym left.parents;
-    sweeping = subst (λ (values : List ℤ). IsSweeping constraints gains sweep Later changed values
-        parents) (sym left.values) (IsSweeping-left before place (get_or constraints place nowhere) here Later seen left.met);
+    sweeping = subst (λ (values : List ℤ).
+        IsSweeping constraints gains sweep Later changed values parents) (sym left.values)
+        (IsSweeping-left before place (get_or constraints place nowhere) here Later seen left.met);
   }
   sweeping_look (Some register) raised sweep Later changed seen parents long before = record {
     later = set parents (get_or constraints place nowhere).head place;
     long = length-set parents (get_or constraints place nowhere).head place;
-    kept = λ own. ap (λ (them : List ℕ). set them (get_or constraints place nowhere).head place) own ∙ sym raised.parents;
-    sweeping = subst (λ r. IsSweeping constraints gains sweep Later (Some r) new.values.items
-        (set parents (get_or constraints place nowhere).head place)) (sym raised.head)
-        (IsSweeping-raised before place (get_or constraints place nowhere) here Later seen
-        (raised_look (Some register) raised).raised.registers small.head
-        (subst (λ (later : List ℤ). IsRaise constraints gains (get_or constraints place nowhere) old.values.items parents later
-        (set parents (get_or constraints place nowhere).head place)) (sym raised.values)
-        (IsRaise-set constraints gains place (get_or constraints place nowhere) old.values.items parents here small.head
-        (omega (arith, small.head, long)) raised.more)));
+    kept = λ own. ap (λ (them : List ℕ). set them (get_or constraints place nowhere).head place) own
+        ∙ sym raised.parents;
+    sweeping = subst (λ r. IsSweeping constraints gains sweep
+        Later (Some r) new.values.items (set parents (get_or constraints place nowhere).head place))
+        (sym raised.head) (IsSweeping-raised before place (get_or constraints place nowhere)
+        here Later seen (raised_look (Some register) raised).raised.registers small.head
+        (subst (λ (later : List ℤ). IsRaise constraints gains (get_or constraints place nowhere)
+        old.values.items parents later (set parents (get_or constraints place nowhere).head place))
+        (sym raised.values) (IsRaise-set constraints gains place (get_or constraints place nowhere)
+        old.values.items parents here small.head (omega (arith, small.head, long)) raised.more)));
   }
 
   -- where its tail isn't above the cap, what is raised is small still
-  small_look : value_of old.values.items (get_or constraints place nowhere).tail ≤ℤ pos (2 ^ 93) → All (IsBelow (2 ^ 94))
-      old.values.items → (answer : Option ℕ) → IsLook gains place (get_or constraints place nowhere) old answer new
-      → All (IsBelow (2 ^ 94)) new.values.items
+  small_look : value_of old.values.items (get_or constraints place nowhere).tail ≤ℤ pos (2 ^ 93)
+      → All (IsBelow (2 ^ 94)) old.values.items → (answer : Option ℕ) → IsLook gains place
+      (get_or constraints place nowhere) old answer new → All (IsBelow (2 ^ 94)) new.values.items
   small_look capped all None left = subst (All (IsBelow (2 ^ 94))) (sym left.values) all
-  small_look capped all (Some register) up = subst (All (IsBelow (2 ^ 94))) (sym up.values)
-      (small_capped gains old.values.items (get_or constraints place nowhere) small capped up.more all)
+  small_look
+      capped all (Some register) up = subst (All (IsBelow (2 ^ 94))) (sym up.values) (small_capped
+      gains old.values.items (get_or constraints place nowhere) small capped up.more all)
 
 -- the place comes after fewer others than so many
 abbrev pub IsSeen : (places : ℕ) (forwards : Bool) (turns place : ℕ) → Type 0
@@ -117,7 +120,8 @@ IsUnderWay-none begun = record {
     later = parents;
     long = refl;
     kept = λ own. own;
-    sweeping = IsSweeping-fewer ready _ (λ place constraint seen here. absurd (omega (arith, seen.1)));
+    sweeping
+        = IsSweeping-fewer ready _ (λ place constraint seen here. absurd (omega (arith, seen.1)));
   };
 }
 
@@ -142,7 +146,8 @@ module _ {constraints : List Constraint} {gains : Gains} {forwards : Bool} {turn
       → IsUnderWay constraints gains forwards (turns + 1) (option_or answer changed) begun later
   IsUnderWay-more {place} answer {later} is within relaxed = record {
     parents = parents_length gains now later smalls_now within answer seen_now ∙ way.parents;
-    raised = AreRaisedBy-more (omega arith) way.raised (raised_look gains now later smalls_now within answer seen_now);
+    raised = AreRaisedBy-more
+        (omega arith) way.raised (raised_look gains now later smalls_now within answer seen_now);
     swept = λ sweep parents long ready.
         let left = way.swept sweep parents long ready in
         let next = sweeping_look gains now later smalls_now within answer seen_now sweep
@@ -200,8 +205,8 @@ HasRisen-one {constraints} {gains} {place} answer {old} {new} room within capped
     let raised = (raised_look gains old new smalls within answer seen).raised in
     record {
       room = record {
-        entries = entries_kept raised.registers (parents_length gains old new smalls within answer seen)
-            room.entries;
+        entries = entries_kept
+            raised.registers (parents_length gains old new smalls within answer seen) room.entries;
         small = small_look gains old new smalls within capped room.small answer seen;
       };
       registers = raised.registers;

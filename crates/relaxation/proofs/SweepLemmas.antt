@@ -92,8 +92,7 @@ module _ {constraints : List Constraint} {gains : Gains} {sweep : ℕ} {Seen : �
       -- what gives more now and whose tail stays gave more before
       gave : (it : Constraint) → it.tail ≢ constraint.head → GivesMore gains later it
           → GivesMore gains values it
-      gave it other more =
-          omega (arith, ints, rises raise it.head, raise.others it.tail other)
+      gave it other more = omega (arith, ints, rises raise it.head, raise.others it.tail other)
 
       -- what gives more has a tail that changed in the sweep before or later
       waits_now : (other : ℕ) (it : Constraint) → slice_get constraints other ≡ Some it

@@ -48,14 +48,13 @@ module _ {constraints : List Constraint} {registers end : ℕ} {last before : Li
   AreByTail-more now read = record {
     lasts = length-set last it.tail (end + 1) ∙ tails.lasts;
     befores = length-set before end now ∙ tails.befores;
-    last_is = at_set (λ register mark. register < registers
-        → IsLastBefore constraints (end + 1) register mark) last it.tail (end + 1) 0
-        (omega (arith, known, tails.lasts)) (λ inside. last_here)
-        (λ register apart inside. last_there register inside apart);
-    before_is = λ place default. at_set (λ place mark. place < end + 1
-        → IsLastBefore constraints place (tail_of constraints place default) mark) before end now 0
-        (omega (arith, within, tails.befores)) (λ below. rw (now_is, at_end default)
-        (tails.last_is it.tail known))
+    last_is = at_set (λ register mark. register < registers → IsLastBefore constraints
+        (end + 1) register mark) last it.tail (end + 1) 0 (omega (arith, known, tails.lasts))
+        (λ inside. last_here) (λ register apart inside. last_there register inside apart);
+    before_is = λ place default. at_set (λ place mark. place < end + 1 → IsLastBefore
+        constraints place (tail_of constraints place default) mark) before end now 0
+        (omega (arith, within, tails.befores))
+        (λ below. rw (now_is, at_end default) (tails.last_is it.tail known))
         (λ other apart below. tails.before_is other default (omega (arith, below, apart))) place;
   }
     where

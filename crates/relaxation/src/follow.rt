@@ -48,9 +48,7 @@ impl Relaxation {
         ensures registers { length self.new.values.items ≡ length self.old.values.items }
         ensures marks { length marks.new ≡ length marks.old }
     {
-        if turns.do_all_wait() {
-            self.lower(constraints, marks, turns.lowest());
-        }
+        self.lower(constraints, marks, turns);
         self.follow_parents(constraints, gains, marks, turns);
         self.take_turns(constraints, gains, turns);
     }

@@ -57,18 +57,22 @@ impl Relaxation {
         None
     }
 
-    /// Lowers each register that has a parent, but for those that are marked as standing, so that it
-    /// rises again by its parent. Values are cut in size.
-    pub(crate) fn lower(&mut self, constraints: &[Constraint], marks: &[u32], lowest: i128)
-        requires entries { HasEntries constraints.now self.old }
+    /// Lowers each register that has a parent and isn't marked as standing, so that it rises again
+    /// by its parent, where each register waits. Values are cut in size.
+    pub(crate) fn lower(&mut self, constraints: &[Constraint], marks: &[u32], turns: &Turns)
+        requires room { HasRoom constraints.now self.old }
         requires marks { length marks.now ≡ length self.old.values.items }
         ensures room { HasRoom constraints.now self.new }
         ensures registers { length self.new.values.items ≡ length self.old.values.items }
     {
+        if !turns.do_all_wait() {
+            return;
+        }
         for register in 0..self.values.len() {
             let place = self.parents[register] as usize;
             let falls = place < constraints.len() && marks[register] != STANDS;
-            self.values[register] = cut(if falls { lowest } else { self.values[register] });
+            let value = self.values[register];
+            self.values[register] = cut(if falls { turns.lowest() } else { value });
         }
     }
 
@@ -77,10 +81,8 @@ impl Relaxation {
         ensures { IsTrue result → HaveOwnHeads constraints.now self.now.parents.items }
     {
         self.parents.iter().enumerate().all(|(register, place)| {
-            match constraints.get(*place as usize) {
-                Some(parent) => parent.head as usize == register,
-                None => true,
-            }
+            let parent = constraints.get(*place as usize);
+            parent.is_none_or(|parent| parent.head as usize == register)
         })
     }
 

@@ -70,9 +70,8 @@ impl Relaxation {
     pub fn forget_parents(&mut self)
         ensures values { self.new.values.items ≡ self.old.values.items }
         ensures parents { length self.new.parents.items ≡ length self.old.parents.items }
-        ensures none { (constraints : List Constraint) (register : ℕ)
-            → length constraints ≤ 2097152
-            → parent_of constraints self.new.parents.items register ≡ None }
+        ensures none { (constraints : List Constraint) (register : ℕ) → length constraints
+            ≤ 2097152 → parent_of constraints self.new.parents.items register ≡ None }
     {
         self.parents.fill(NO_PARENT);
     }
@@ -120,8 +119,7 @@ impl Relaxation {
     /// sweep changes nothing. It needs no parents, makes at most a sweep for each register, and
     /// takes no memory.
     pub fn satisfy(&mut self, constraints: &[Constraint], gains: Gains)
-        requires constraints { AreSmallConstraints (length self.old.values.items)
-            constraints.now }
+        requires constraints { AreSmallConstraints (length self.old.values.items) constraints.now }
         requires small { All (IsBelow (2 ^ 94)) self.old.values.items }
         requires admitted { AdmitsGains constraints.now gains }
         ensures satisfied { SatisfiesGains constraints.now gains 1
@@ -144,8 +142,7 @@ impl Relaxation {
         requires entries { HasEntries constraints.now self.now }
         requires register { register < length self.now.parents.items }
         ensures small { IfSome result (λ parent. IsBelow (10 ^ 11) parent.now.weight) }
-        ensures within { IfSome result (λ parent.
-            parent.now.tail < length self.now.parents.items) }
+        ensures within { IfSome result (λ parent. parent.now.tail < length self.now.parents.items) }
     {
         constraints.get(self.parents[register as usize] as usize)
     }
@@ -171,8 +168,7 @@ impl Relaxation {
     /// One sweep, forwards where the number of sweeps before it is even. The register that changed
     /// last is answered. It takes no memory.
     pub fn sweep(&mut self, constraints: &[Constraint], gains: Gains, before: usize) -> Option<u32>
-        requires constraints { AreSmallConstraints (length self.old.values.items)
-            constraints.now }
+        requires constraints { AreSmallConstraints (length self.old.values.items) constraints.now }
         requires small { All (IsBelow (2 ^ 114)) self.old.values.items }
         ensures { IsSweep constraints.now gains self.old result self.new }
     {
@@ -193,8 +189,7 @@ impl Relaxation {
         place: usize,
         gains: Gains,
     ) -> Option<u32>
-        requires constraints { AreSmallConstraints (length self.old.values.items)
-            constraints.now }
+        requires constraints { AreSmallConstraints (length self.old.values.items) constraints.now }
         requires place { place < length constraints.now }
         requires small { All (IsBelow (2 ^ 115)) self.old.values.items }
         ensures { IsRelaxed constraints.now gains place self.old result self.new }

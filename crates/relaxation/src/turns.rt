@@ -63,11 +63,8 @@ impl Turns {
             registers: registers as u32,
             waiting: 0,
         };
-        turns.link_within(
-            constraints,
-            gains,
-            apart_at_first(registers, constraints, gains),
-        );
+        let apart = apart_at_first(registers, constraints, gains);
+        turns.link_within(constraints, gains, apart);
         Ok(turns)
     }
 
@@ -92,14 +89,11 @@ impl Turns {
 
     // Whether a constraint is linked.
     fn links(&self, constraint: &Constraint) -> bool {
-        match &self.strong {
-            Some(strong) => strong.has(constraint),
-            None => true,
-        }
+        self.strong.is_none_or(|strong| strong.has(constraint))
     }
 
-    /// The least value that a parent may give: 0 where not all constraints are linked, so that
-    /// values lie near one another.
+    /// The value from which registers rise by their parents: 0 where not all constraints are
+    /// linked, so that values lie near one another.
     pub(crate) fn lowest(&self) -> i128 {
         if self.strong.is_some() { 0 } else { i128::MIN }
     }
@@ -108,11 +102,7 @@ impl Turns {
     // these are few, and else all. Each register waits then.
     fn link_within(&mut self, constraints: &[Constraint], gains: Gains, apart: i128) {
         let strong = Strong::within(gains, apart);
-        self.strong = if strong.are_few(constraints) {
-            Some(strong)
-        } else {
-            None
-        };
+        self.strong = strong.are_few(constraints).then_some(strong);
         self.spread = apart / gains.scale;
         self.tails.last.fill(0);
         let mut mark = 0u32;
@@ -161,21 +151,18 @@ impl Turns {
 
     /// Lets a register wait behind all others, if it doesn't wait.
     pub(crate) fn let_wait(&mut self, register: u32) {
+        let own = register.wrapping_add(1);
         let Some(behind) = self.behind.get_mut(register as usize) else {
             return;
         };
-        if *behind == 0 {
-            *behind = register.wrapping_add(1);
-            self.put_last(register);
+        if *behind != 0 {
+            return;
         }
-    }
-
-    // Puts a register behind the last that waits.
-    fn put_last(&mut self, register: u32) {
+        *behind = own;
         if self.waiting == 0 {
             self.first = register;
         } else if let Some(behind) = self.behind.get_mut(self.last as usize) {
-            *behind = register.wrapping_add(1);
+            *behind = own;
         }
         self.last = register;
         self.waiting = self.waiting.wrapping_add(1);

@@ -2,12 +2,11 @@ ghost use Rattle.std.specs.Prelude.{◌≡◌, ◌^◌, All, IfOk, length, nat_a
 ghost use Rattle.cts_model.specs.timing.Constraints.{AreSmallConstraints};
 ghost use Rattle.cts_model.specs.placement.Points.{IsBelow};
 ghost use Rattle.relaxation.specs.Gains.{AdmitsGains};
-ghost use Rattle.schedule.specs.Gains.{AreLeastArrivalsBy};
+ghost use Rattle.schedule.specs.Gains.{AreGainsOf, AreLeastArrivalsBy};
 ghost use Rattle.schedule.specs.Rises.{CanRaise};
 ghost use Rattle.schedule.specs.Schedules.{AreWithinWeights, IsAdmittedBy, IsLeastScheduleOf};
 ghost use Rattle.cts_model.specs.timing.Schedules.{IsSmallPeriod};
 
-use crate::gains::gains_of;
 use cts_base::{Fraction, Listed, NoMemory};
 use cts_model::{Constraint, Schedule};
 use relaxation::{Gains, Relaxation, Turns};
@@ -102,4 +101,16 @@ fn settled(relaxation: Relaxation, constraints: &[Constraint], gains: Gains) -> 
     let mut relaxation = relaxation;
     relaxation.satisfy(constraints, gains);
     Listed::from_vec(relaxation.values)
+}
+
+/// What constraints ask at a period, over its denominator.
+pub(crate) fn gains_of(period: Fraction) -> Gains
+    requires { IsSmallPeriod period }
+    ensures { AreGainsOf period result }
+{
+    Gains {
+        scale: period.den(),
+        setup: period.num(),
+        hold: 0,
+    }
 }

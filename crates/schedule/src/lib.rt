@@ -1,7 +1,6 @@
 //! The least arrivals at which registers meet constraints between them at a period, and why.
 #![tactic(auto)]
 
-mod gains;
 mod least;
 mod reach;
 mod tight;

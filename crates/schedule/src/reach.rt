@@ -21,8 +21,7 @@ pub(crate) struct Reach {
 }
 
 impl Reach {
-    ghost use Rattle.schedule.specs.Reaching.{IsAdded, IsGiven, IsGrown, IsHanded, IsReached};
-    ghost use Rattle.schedule.specs.Reaching.{IsReaching, IsSized, IsWhole};
+    ghost use Rattle.schedule.specs.Reaching.{IsAdded, IsGiven, IsGrown, IsHanded, IsReached, IsReaching, IsSized, IsWhole};
 
     /// Reaches the registers at 0.
     pub(crate) fn start(alloc: Global, at: &[i128]) -> Result<Reach, NoMemory>

@@ -1,11 +1,10 @@
 ghost use Rattle.std.specs.Prelude.{◌≡◌, ◌≤◌, ◌↔◌, ℕ, Contains, IfOk, IsTrue, length, nat_abs};
 ghost use Rattle.cts_model.specs.timing.Constraints.{AreSmallConstraints, IsSmallConstraint};
-ghost use Rattle.cts_model.specs.timing.Schedules.{AreFromZero};
 ghost use Rattle.schedule.specs.Schedules.{IsAdmittedBy, IsLeastScheduleOf};
-ghost use Rattle.cts_model.specs.timing.Schedules.{IsSmallPeriod, arrival_of};
+ghost use Rattle.cts_model.specs.timing.Schedules.{AreFromZero, IsSmallPeriod, arrival_of};
 ghost use Rattle.cts_model.specs.timing.Leads.{EachLead, IsTight, depth_of, lead_at};
 
-use crate::gains::gains_of;
+use crate::least::gains_of;
 use crate::reach::Reach;
 use cts_base::{Fraction, Listed, NoMemory};
 use cts_model::{Constraint, Lead, Schedule};

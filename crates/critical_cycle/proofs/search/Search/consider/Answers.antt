@@ -3,8 +3,8 @@ use Rattle.critical_cycle.proofs.Vocabulary.{◌≡◌, ◌∙◌, ap, subst, sy
 use Rattle.critical_cycle.proofs.SearchLemmas.{can_try, raise_shows}
 use Rattle.critical_cycle.proofs.search.Search.consider.Goals as goal
 
-pub raise_by-raise-requires-clause-ratio : goal.raise_by-raise-requires-clause-ratio
-raise_by-raise-requires-clause-ratio c =
+pub raise_by-shown-requires-clause-ratio : goal.raise_by-shown-requires-clause-ratio
+raise_by-shown-requires-clause-ratio c =
     let search = c.requires.search in
     can_try c.args.self.now.measure c.args.constraints.now c.args.self.now.first _
     c.args.self.now.shown c.in-Some.ratio search.first search.shown c.in-Some.ensures
@@ -20,9 +20,8 @@ returns c =
     ≡ c.args.cycle.now = ap (λ ps. drop c.put_last-self.result ps) whole
     ∙ c.put_last-self.ensures.last in
     let shows = raise_shows before.measure c.args.constraints.now before.first _ c.args.cycle.now
-    before.shown c.raised-self.result c.in-Some.ratio c.raise_by-raise.result
-    search.first search.shown c.in-Some.ensures c.requires.within c.requires.cycle
-    c.in_default-raise.not-Keep c.raise_by-raise.ensures c.raised-self.ensures in
+    before.shown c.raise_by-shown.result c.in-Some.ratio search.first search.shown c.in-Some.ensures
+    c.requires.within c.requires.cycle c.in_default-shown.not-First c.raise_by-shown.ensures in
     record {
       search = record {
         room = search.room;
@@ -31,7 +30,7 @@ returns c =
         start = omega (arith, ap length whole, c.put_last-self.ensures.start);
         first = search.first;
         shown = subst (λ ps. IsShown before.measure c.args.constraints.now before.first ps
-            c.raised-self.result) (sym cycle) shows.0;
+            c.raise_by-shown.result) (sym cycle) shows.0;
       };
       same = record { measure = refl; first = refl; registers = refl };
     }

@@ -3,8 +3,8 @@ use Rattle.critical_cycle.proofs.Vocabulary.{◌≡◌, ◌∙◌, ap, subst, sy
 use Rattle.critical_cycle.proofs.SearchLemmas.{can_try, not_kept, raise_shows}
 use Rattle.critical_cycle.proofs.search.Search.raise.Goals as goal
 
-pub raise_by-raise-requires-clause-ratio : goal.raise_by-raise-requires-clause-ratio
-raise_by-raise-requires-clause-ratio c =
+pub raise_by-self-requires-clause-ratio : goal.raise_by-self-requires-clause-ratio
+raise_by-self-requires-clause-ratio c =
     let search = c.requires.search in
     let before = c.args.self.now in
     can_try before.measure c.args.constraints.now before.first _ before.shown before.ratio
@@ -26,13 +26,13 @@ returns c =
     ps) (sym c.as_slice-parents.ensures.value) ring.far_up.are_parents in
     let gains = c.go_round-self.ensures.gains before.trial before.relaxation.values.items parents in
     let judged = subst (λ ps. IsRaise before.measure before.ratio (constraints_at constraints ps)
-    c.raise_by-raise.result) cycle c.raise_by-raise.ensures in
+    c.raise_by-self.result) cycle c.raise_by-self.ensures in
     let steps = constraints_at constraints (drop c.go_round-self.result places) in
-    let shows = raise_shows before.measure constraints before.first _ (drop c.go_round-self.result
-    places) before.shown c.raised-self.result before.ratio c.raise_by-raise.result
+    let shows = raise_shows before.measure constraints before.first _
+    (drop c.go_round-self.result places) before.shown c.raise_by-self.result before.ratio
     search.first search.shown ring.at_shown.greatest c.go_round-self.ensures.within
-    c.go_round-self.ensures.cycle (not_kept before.measure before.ratio before.trial
-    steps c.raise_by-raise.result ring.at_shown.at gains judged) judged c.raised-self.ensures in
+    c.go_round-self.ensures.cycle (not_kept before.measure before.ratio before.trial steps
+    c.raise_by-self.result ring.at_shown.at gains judged) judged in
     record {
       search = record {
         room = search.room;
@@ -41,7 +41,7 @@ returns c =
         start = omega (arith, ap length whole, c.go_round-self.ensures.some);
         first = search.first;
         shown = subst (λ ps. IsShown before.measure constraints before.first
-            (drop c.go_round-self.result ps) c.raised-self.result) (sym whole) shows.0;
+            (drop c.go_round-self.result ps) c.raise_by-self.result) (sym whole) shows.0;
       };
       same = record { measure = refl; first = refl; registers = refl };
       less = shows.1;

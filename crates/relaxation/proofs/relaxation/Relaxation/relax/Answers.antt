@@ -1,7 +1,7 @@
 -- The code's numbers are small, so they are what the definitions say.
 use Rattle.relaxation.proofs.Vocabulary.{◌^◌, get_or, ◌∙◌, refl, sym, subst, ap, arith, slice_get-get_or, Constraint, IsBelow}
 use Rattle.std.proofs.Math.ListN.{set}
-use Rattle.relaxation.proofs.RelaxLemmas.{nowhere, IsRead-at, sum_fits, offer_read, left_read, more_read, relaxed_left, relaxed_raised}
+use Rattle.relaxation.proofs.RelaxLemmas.{nowhere, IsRead-at, sum_fits, offer_read, left_read, more_read}
 use Rattle.relaxation.proofs.relaxation.Relaxation.relax.Goals as goal
 
 pub overflow_add-offer : goal.overflow_add-offer
@@ -18,8 +18,7 @@ returns-then-offer-index c =
     let read = IsRead-at constraints c.args.gains c.args.place c.args.self.now.values.items
     c.index.result.now c.gain.result c.index-2.result.now c.requires.constraints c.requires.place
     c.requires.small c.index.ensures c.gain.ensures.gain c.gain.ensures.small c.index-2.ensures in
-    relaxed_left constraints c.args.gains c.args.place (get_or constraints c.args.place nowhere)
-    c.args.self.now _ (slice_get-get_or constraints c.args.place nowhere c.requires.place) (record {
+    rw (slice_get-get_or constraints c.args.place nowhere c.requires.place) (record {
       met = left_read read c.if-offer-index.true;
       values = refl;
       parents = refl;
@@ -39,9 +38,7 @@ returns c =
     let read = IsRead-at constraints c.args.gains c.args.place c.args.self.now.values.items
     c.index.result.now c.gain.result c.index-2.result.now c.requires.constraints c.requires.place
     c.requires.small c.index.ensures c.gain.ensures.gain c.gain.ensures.small c.index-2.ensures in
-    relaxed_raised constraints c.args.gains c.args.place constraint c.args.self.now
-    c.keep_parent.new.self constraint.head (slice_get-get_or constraints c.args.place nowhere
-    c.requires.place) (record {
+    rw (slice_get-get_or constraints c.args.place nowhere c.requires.place) (record {
       head = refl;
       more = more_read read c.if-offer-index.false;
       values = c.keep_parent.ensures.values
