@@ -18,8 +18,9 @@ total_gain gains (constraint ∷ constraints) =
 
 -- each head's value is high enough, at a scale that many times as fine
 abbrev pub SatisfiesGains : List Constraint → Gains → (times : ℕ) → (value : ℕ → ℤ) → Type 0
-SatisfiesGains constraints gains times value = All (λ constraint. (value constraint.tail
-    +ℤ (pos times *ℤ gain_of gains constraint)) ≤ℤ value constraint.head) constraints
+SatisfiesGains constraints gains times value =
+    All (λ constraint. (value constraint.tail +ℤ (pos times *ℤ gain_of gains constraint))
+    ≤ℤ value constraint.head) constraints
 
 -- some values satisfy the constraints
 abbrev pub AdmitsGains : List Constraint → Gains → Type 0

@@ -19,8 +19,9 @@ HaveOwnHeads constraints parents = (register : ℕ) (parent : Constraint)
 -- from register to register up the parents: from a head to the tail of its parent
 abbrev pub Climbs : List Constraint → List ℕ → ℕ → List Constraint → ℕ → Type 0
 Climbs constraints parents from [] to = from ≡ to
-Climbs constraints parents from (constraint ∷ above) to = (parent_of constraints parents from
-    ≡ Some constraint) × Climbs constraints parents constraint.tail above to
+Climbs constraints parents from (constraint ∷ above) to =
+    (parent_of constraints parents from ≡ Some constraint)
+    × Climbs constraints parents constraint.tail above to
 
 -- so many parents as there are registers lead up from the one register to the other
 abbrev pub ReachesUp : List Constraint → List ℕ → ℕ → ℕ → Type 0
@@ -44,7 +45,8 @@ value_of values register = slice_index_or values register (pos 0)
 pub record AreParents (constraints : List Constraint) (gains : Gains) (values : List ℤ)
     (parents : List ℕ) : Type 0 where
   pub heads : HaveOwnHeads constraints parents
-  pub given : (register : ℕ) (parent : Constraint) → parent_of constraints parents register ≡ Some
-      parent → value_of values register ≤ℤ (value_of values parent.tail +ℤ gain_of gains parent)
+  pub given : (register : ℕ) (parent : Constraint)
+      → parent_of constraints parents register ≡ Some parent
+      → value_of values register ≤ℤ (value_of values parent.tail +ℤ gain_of gains parent)
   pub rings : (register : ℕ) (above : List Constraint) → 0 < length above
       → Climbs constraints parents register above register → pos 0 <ℤ total_gain gains above

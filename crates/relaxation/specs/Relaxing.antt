@@ -30,7 +30,8 @@ pub record HasRisen (constraints : List Constraint) (gains : Gains) (old new : R
 
 -- what the constraint gives its head
 abbrev pub offer_of : Gains → List ℤ → Constraint → ℤ
-offer_of gains values constraint = value_of values constraint.tail +ℤ gain_of gains constraint
+offer_of gains values constraint =
+    value_of values constraint.tail +ℤ gain_of gains constraint
 
 -- that is more than the head has
 abbrev pub GivesMore : Gains → List ℤ → Constraint → Type 0
@@ -39,7 +40,8 @@ GivesMore gains values constraint =
 
 -- a constraint that gives no more changes nothing
 pub record IsLeft (gains : Gains) (constraint : Constraint) (old new : Relaxation) : Type 0 where
-  pub met : offer_of gains old.values.items constraint ≤ℤ value_of old.values.items constraint.head
+  pub met : offer_of gains old.values.items constraint
+      ≤ℤ value_of old.values.items constraint.head
   pub values : new.values.items ≡ old.values.items
   pub parents : new.parents.items ≡ old.parents.items
 
@@ -55,8 +57,9 @@ pub record IsRaised (gains : Gains) (place : ℕ) (constraint : Constraint) (old
 -- the constraint at the place is looked at, and this register changed, if any did
 abbrev pub IsRelaxed : List Constraint → Gains → (place : ℕ) → (old : Relaxation)
     → (changed : Option ℕ) → (new : Relaxation) → Type 0
-IsRelaxed constraints gains place old changed new = IfSome (slice_get constraints place)
-    (λ constraint. MatchOption changed (IsLeft gains constraint old new)
+IsRelaxed constraints gains place old changed new =
+    IfSome (slice_get constraints place) (λ constraint. MatchOption changed
+    (IsLeft gains constraint old new)
     (λ register. IsRaised gains place constraint old register new))
 
 -- the parents are those of the gains, and so many of them lead up to the register

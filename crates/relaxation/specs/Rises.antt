@@ -7,7 +7,8 @@ use Rattle.relaxation.specs.Parents.{value_of}
 
 -- no value is below the least
 abbrev pub AreFrom : ℤ → List ℤ → Type 0
-AreFrom least values = (register : ℕ) → register < length values → least ≤ℤ value_of values register
+AreFrom least values = (register : ℕ) → register < length values
+    → least ≤ℤ value_of values register
 
 -- no value is above the greatest
 abbrev pub AreUpTo : ℤ → List ℤ → Type 0
@@ -32,4 +33,5 @@ pub record AreRaised (constraints : List Constraint) (gains : Gains) (old new : 
 pub record AreRaisedBy (constraints : List Constraint) (gains : Gains) (raises : ℕ)
     (old new : List ℤ) : Type 0 where
   pub raised : AreRaised constraints gains old new
-  pub high : (greatest : ℤ) → AreUpTo greatest old → AreUpTo (greatest +ℤ pos (raises * 2 ^ 80)) new
+  pub high : (greatest : ℤ) → AreUpTo greatest old
+      → AreUpTo (greatest +ℤ pos (raises * 2 ^ 80)) new

@@ -12,18 +12,22 @@ use Rattle.relaxation.specs.Rises.{AreRaisedBy}
 -- within a sweep that has seen some places: where a constraint gives more, its tail has changed
 -- since it was seen, and above a register that changed is one that changed a sweep before or later
 pub record IsSweeping (constraints : List Constraint) (gains : Gains) (sweep : ℕ)
-    (Seen : ℕ → Type 0) (changed : Option ℕ) (values : List ℤ) (parents : List ℕ) : Type 0 where
+    (Seen : ℕ → Type 0) (changed : Option ℕ) (values : List ℤ)
+    (parents : List ℕ) : Type 0 where
   pub are_parents : AreParents constraints gains values parents
   pub last : ℕ → ℕ
   pub latest : (register : ℕ) → last register ≤ sweep
   pub changes : MatchOption changed ((register : ℕ) → last register < sweep)
       (λ register. (register < length values) × (last register ≡ sweep))
-  pub waits : (place : ℕ) (constraint : Constraint) → slice_get constraints place
-      ≡ Some constraint → GivesMore gains values constraint → sweep ≤ last constraint.tail + 1
-  pub seen : (place : ℕ) (constraint : Constraint) → Seen place → slice_get constraints place
-      ≡ Some constraint → GivesMore gains values constraint → sweep ≤ last constraint.tail
-  pub above : (register : ℕ) → 0 < last register → (parent : Constraint) × (parent_of
-      constraints parents register ≡ Some parent) × (last register ≤ last parent.tail + 1)
+  pub waits : (place : ℕ) (constraint : Constraint)
+      → slice_get constraints place ≡ Some constraint
+      → GivesMore gains values constraint → sweep ≤ last constraint.tail + 1
+  pub seen : (place : ℕ) (constraint : Constraint) → Seen place
+      → slice_get constraints place ≡ Some constraint
+      → GivesMore gains values constraint → sweep ≤ last constraint.tail
+  pub above : (register : ℕ) → 0 < last register → (parent : Constraint)
+      × (parent_of constraints parents register ≡ Some parent)
+      × (last register ≤ last parent.tail + 1)
 
 -- before a sweep
 abbrev pub IsReady : List Constraint → Gains → ℕ → (values : List ℤ) (parents : List ℕ) → Type 0

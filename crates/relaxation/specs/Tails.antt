@@ -19,5 +19,6 @@ pub record AreByTail (constraints : List Constraint) (registers end : ℕ)
   pub befores : length before ≡ length constraints
   pub last_is : (register : ℕ) → register < registers
       → IsLastBefore constraints end register (slice_index last register)
-  pub before_is : (place : ℕ) (default : Constraint) → place < end → IsLastBefore
-      constraints place (slice_index_or constraints place default).tail (slice_index before place)
+  pub before_is : (place : ℕ) (default : Constraint) → place < end
+      → IsLastBefore constraints place (slice_index_or constraints place default).tail
+      (slice_index before place)

@@ -17,8 +17,9 @@ pub record AreGainsOf (period : Fraction) (gains : Gains) : Type 0 where
 -- least as late
 abbrev pub AreLeastBy : List Constraint → Gains → List ℤ → Type 0
 AreLeastBy constraints gains at = (times : ℕ) (other : ℕ → ℤ) → 1 ≤ times
-    → AreFromZero (length at) other → SatisfiesGains constraints gains times other → (register : ℕ)
-    → register < length at → (pos times *ℤ arrival_of at register) ≤ℤ other register
+    → AreFromZero (length at) other → SatisfiesGains constraints gains times other
+    → (register : ℕ) → register < length at
+    → (pos times *ℤ arrival_of at register) ≤ℤ other register
 
 -- the arrivals satisfy the constraints, are from 0 on, and are the least that do
 pub record AreLeastArrivalsBy (constraints : List Constraint) (gains : Gains)

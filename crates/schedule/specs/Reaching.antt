@@ -44,8 +44,9 @@ pub record IsReaching (constraints : List Constraint) (period : Fraction) (at : 
       → IsReached reach register
   pub fresh : (register : ℕ) → looked ≤ register
       → slice_index_or reach.reached.items register false ≡ false
-  pub led : (register : ℕ) → IsReached reach register → IsLead (Contains constraints)
-      period at reach.leads.items register (lead_at reach.leads.items register)
+  pub led : (register : ℕ) → IsReached reach register
+      → IsLead (Contains constraints) period at reach.leads.items register
+      (lead_at reach.leads.items register)
   pub from : (register : ℕ) → IsReached reach register
       → IsFromReached reach (lead_at reach.leads.items register)
   pub low : (register : ℕ) → depth_of (lead_at reach.leads.items register)
@@ -95,5 +96,6 @@ pub record IsHanded (constraints : List Constraint) (period : Fraction) (at : Li
 pub record IsWhole (constraints : List Constraint) (period : Fraction) (at : List ℤ)
     (reach : Reach) : Type 0 where
   pub reaching : IsReaching constraints period at (length at) reach
-  pub handed : (place : ℕ) (default : Constraint) → place < length constraints → IsReached reach
-      (slice_index_or constraints place default).tail → IsHandedBy constraints period at reach place
+  pub handed : (place : ℕ) (default : Constraint) → place < length constraints
+      → IsReached reach (slice_index_or constraints place default).tail
+      → IsHandedBy constraints period at reach place

@@ -11,10 +11,11 @@ use Rattle.relaxation.specs.declared.gains.Gains.{Gains}
 -- any others from 0 on that satisfy the constraints, at a scale that many times as fine, are at
 -- least as late
 abbrev pub AreLeast : List Constraint → (numerator : ℤ) (denominator : ℕ) → List ℤ → Type 0
-AreLeast constraints numerator denominator at = (times : ℕ) (other : ℕ → ℤ)
-    → 1 ≤ times → AreFromZero (length at) other
-    → Satisfies constraints (denominator * times) (numerator *ℤ pos times) other → (register : ℕ)
-    → register < length at → (pos times *ℤ arrival_of at register) ≤ℤ other register
+AreLeast constraints numerator denominator at = (times : ℕ) (other : ℕ → ℤ) → 1 ≤ times
+    → AreFromZero (length at) other
+    → Satisfies constraints (denominator * times) (numerator *ℤ pos times) other
+    → (register : ℕ) → register < length at
+    → (pos times *ℤ arrival_of at register) ≤ℤ other register
 
 -- the arrivals satisfy the constraints at the period, are from 0 on, and are the least that do
 pub record IsLeastScheduleOf (constraints : List Constraint) (numerator : ℤ) (denominator : ℕ)
@@ -26,8 +27,9 @@ pub record IsLeastScheduleOf (constraints : List Constraint) (numerator : ℤ) (
 -- where no weight is above this one, no arrival is above so many of it as there are other registers
 abbrev pub AreWithinWeights : List Constraint → (denominator : ℕ) → List ℤ → Type 0
 AreWithinWeights constraints denominator at = (weight : ℕ)
-    → All (λ constraint. constraint.weight ≤ℤ pos weight) constraints → (register : ℕ) → register
-    < length at → arrival_of at register ≤ℤ pos ((length at - 1) * (denominator * weight))
+    → All (λ constraint. constraint.weight ≤ℤ pos weight) constraints
+    → (register : ℕ) → register < length at
+    → arrival_of at register ≤ℤ pos ((length at - 1) * (denominator * weight))
 
 -- some arrivals satisfy the constraints at the period
 abbrev pub IsAdmittedBy : List Constraint → Fraction → Type 0
