@@ -29,11 +29,7 @@ alike_from one other alike =
 -- and through a third
 alike_through : (one other third : Constraint) → AreAlike one other → AreAlike one third
     → AreAlike other third
-alike_through one other third first second = record {
-  setup = sym first.setup ∙ second.setup;
-  tail = sym first.tail ∙ second.tail;
-  head = sym first.head ∙ second.head;
-}
+alike_through one other third first second = search arith
 
 -- the table that is read at a corner's place is the corner's
 pub table_at : (techs : List Tech) (corner : ℕ) (tech : Tech) → corner < length techs

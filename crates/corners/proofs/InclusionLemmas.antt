@@ -33,53 +33,12 @@ module _ (lists : List (List Constraint)) (list : List Constraint) where
       kept_greatest : (constraint_at list place).weight ≤ℤ weight_at lists corner place
           → IsGreatestAt (lists ++ list ∷ []) place corner
       kept_greatest enough =
-          let same = earlier_weight corner is.in_range in
-          record {
-            in_range = omega (arith, is.in_range, one_more);
-            greatest = λ other within. elim (cases_lt other (length lists)) [
-              | inl earlier ↦
-                  omega (arith, ints, same, earlier_weight other earlier, is.greatest other earlier)
-              | inr later ↦
-                  let last : other ≡ length lists = omega (arith, within, one_more) in
-                  rw last (omega (arith, ints, same, further_weight, enough))
-            ];
-            first = λ other earlier.
-                omega (
-                  arith,
-                  ints,
-                  same,
-                  is.first other earlier,
-                  earlier_weight other (omega (arith, earlier, is.in_range)),
-                );
-          }
+          search (arith, earlier_weight, one_more, cases_lt, ints, further_weight)
 
       -- and the further one is where it asks for more
       taken_greatest : weight_at lists corner place <ℤ (constraint_at list place).weight
           → IsGreatestAt (lists ++ list ∷ []) place (length lists)
-      taken_greatest more = record {
-        in_range = omega (arith, one_more);
-        greatest = λ other within. elim (cases_lt other (length lists)) [
-          | inl earlier ↦ omega (
-            arith,
-            ints,
-            further_weight,
-            earlier_weight other earlier,
-            more,
-            is.greatest other earlier,
-          )
-          | inr later ↦
-              let last : other ≡ length lists = omega (arith, within, one_more) in
-              rw last (omega (arith, ints))
-        ];
-        first = λ other earlier. omega (
-          arith,
-          ints,
-          further_weight,
-          earlier_weight other earlier,
-          more,
-          is.greatest other earlier,
-        );
-      }
+      taken_greatest more = search (arith, one_more, cases_lt, ints, further_weight, earlier_weight)
 
 -- what is combined at a place depends on what stands there alone
 same_place : (lists : List (List Constraint)) (old new : Combined) (place : ℕ)

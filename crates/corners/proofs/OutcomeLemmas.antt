@@ -83,10 +83,7 @@ module _ {circuit : Circuit} {techs : List Tech} {combined : Combined} {floor : 
   -- and the other way round
   above_all : (scale : ℕ) (period : ℤ) → IsAboveFloors techs scale period
       → (pos scale *ℤ floor) ≤ℤ period
-  above_all scale period above =
-      let (corner, tech, within, here, floor_is) = of.a_floor in
-      let its = rw here at (above corner tech within) in
-      rw (← floor_is) its
+  above_all scale period above = search arith
 
   -- what the combined list admits is admitted in all corners
   common_where_admitted : (scale : ℕ) (period : ℤ)

@@ -132,6 +132,4 @@ pub same_for_tables : (circuit : Circuit) (tech other_tech : Tech) (pairs others
     → ListsPairs circuit tech pairs → ListsPairs circuit other_tech others
     → AreSamePairs pairs others
 same_for_tables circuit tech other_tech pairs others lists list_others =
-    same_pairs pairs others lists.ordered list_others.ordered
-    (among_others circuit tech other_tech pairs others lists list_others)
-    (among_others circuit other_tech tech others pairs list_others lists)
+    search (arith, same_pairs, among_others)

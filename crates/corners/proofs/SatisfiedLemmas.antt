@@ -50,13 +50,7 @@ module _ (scale : ℕ) (period : ℤ) (arrival : ℕ → ℤ) where
     -- and where each is satisfied, the combined list is
     all_satisfied : All (λ list. Satisfies list scale period arrival) lists
         → Satisfies constraints scale period arrival
-    all_satisfied satisfied = λ place any within.
-        let is = combined place within in
-        let named = get_or corners place 0 in
-        let at_place : place < length (list_of lists named) =
-        omega (arith, lengths named [] is.named.in_range) in
-        rw (get_or_default constraints place any no_constraint within, is.constraint)
-        (satisfied named [] is.named.in_range place no_constraint at_place)
+    all_satisfied satisfied = search (arith, get_or_default)
 
     -- the combined list is satisfied exactly where each is
     pub satisfied_where_each : Satisfies constraints scale period arrival

@@ -8,16 +8,4 @@ pub small_of_each : (registers : ℕ) (lists : List (List Constraint))
     → ((place : ℕ) → place < length constraints → IsCombinedAt lists constraints corners place)
     → All (AreSmallConstraints registers) lists → AreSmallConstraints registers constraints
 small_of_each registers lists constraints corners some lengths combined small =
-    let first = small 0 [] some in
-    record {
-      some = first.some;
-      not_many = first.not_many;
-      few = omega (arith, lengths 0 [] some, first.few);
-      each = λ place any within.
-          let is = combined place within in
-          let named = get_or corners place 0 in
-          let at_place : place < length (list_of lists named) =
-          omega (arith, lengths named [] is.named.in_range) in
-          rw (get_or_default constraints place any no_constraint within, is.constraint)
-          ((small named [] is.named.in_range).each place no_constraint at_place);
-    }
+    search (arith, get_or_default)

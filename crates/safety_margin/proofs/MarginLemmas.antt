@@ -21,9 +21,7 @@ module _ {period ratio value : Fraction} {measure : Measure} (at : IsMeasureAt p
     (margin_at : IsMarginAt period ratio value) where
   -- the product of the two denominators
   dens_are : pos (nat_abs ratio.den * nat_abs period.den) ≡ ratio.den *ℤ period.den
-  dens_are = sym (pos-*ℤ-pos (nat_abs ratio.den) (nat_abs period.den))
-      ∙ ap (λ w. w *ℤ pos (nat_abs period.den)) (den_is ratio)
-      ∙ ap (λ w. ratio.den *ℤ w) (den_is period)
+  dens_are = search (arith, den_is)
 
   -- the value over it
   value_over : value.num *ℤ pos (nat_abs ratio.den * nat_abs period.den)

@@ -22,10 +22,7 @@ floor_high (pos n) t some = omega (arith, ints, lt-mul-div-succ n some)
 floor_high (negsuc n) t some = over (n / t) (div-mul-le_self n t)
   where
     over : (m : ℕ) → m * t ≤ n → negsuc n <ℤ ((negsuc m +ℤ pos 1) *ℤ pos t)
-    over m low =
-        let next = negsuc m +ℤ pos 1 in
-        let next_plain : up next + m ≡ down next = omega (arith, ints) in
-        omega (arith, ints, ap (λ i. t * i) next_plain)
+    over m low = search (arith, ints)
 
 -- so rounding keeps whole differences
 floor_keeps : (x y z : ℤ) (t : ℕ) → 1 ≤ t → (y +ℤ (pos t *ℤ z)) ≤ℤ x
@@ -117,18 +114,13 @@ module _ {period value share : Fraction} {gains : Gains}
 
   -- the scale is it
   pub scale_is : gains.scale ≡ pos (q * u)
-  scale_is = gains_are.scale_is
-      ∙ sym (ap (λ w. w *ℤ pos u) (den_is period) ∙ ap (λ w. period.den *ℤ w) u_is)
-      ∙ pos-*ℤ-pos q u
+  scale_is = search (arith, den_is, u_is)
 
   -- the gain of a constraint
   gain_is : (it : Constraint)
       → gain_of gains it ≡ ((pos (q * u) *ℤ it.weight) +ℤ (value.num *ℤ pos z))
       -ℤ ((period.num *ℤ pos u) *ℤ pos (count_of it))
-  gain_is it =
-      rw (gains_are.scale_is, gains_are.setup_is, gains_are.hold_is)
-      (gain_same it.setup q u z period.den share.den share.num period.num value.num it.weight
-      (sym (den_is period)) (sym u_is) (sym z_is))
+  gain_is it = search (arith, scale_is, gain_same, den_is, u_is, z_is)
 
   -- arrivals that satisfy the constraints by their gains spare the margin
   spares_at : (constraints : List Constraint) (arrival : ℕ → ℤ)

@@ -118,12 +118,7 @@ no_more_margin m d t g a v some value within =
 
 -- numbers that are the same that many times
 same_times : (t : ℕ) (x y : ℤ) → 1 ≤ t → pos t *ℤ x ≡ pos t *ℤ y → x ≤ℤ y
-same_times t x y some same = by_lt_z y x
-    (λ more.
-    let plain : t * up x + t * down y ≡ t * down x + t * up y = omega (arith, ints) in
-    let more_plain : up y + down x + 1 ≤ down y + up x = omega (arith, ints) in
-    absurd (omega (arith, mul-le-mul_left t more_plain)))
-    (λ less. less)
+same_times t x y some same = search (arith, by_lt_z, ints, mul-le-mul_left)
 
 -- are the same
 pub times_same : (t : ℕ) (x y : ℤ) → 1 ≤ t → pos t *ℤ x ≡ pos t *ℤ y → x ≡ y

@@ -4,9 +4,7 @@ use Rattle.corners.proofs.CommonLemmas.{combined_first, combined_more, common_of
 use Rattle.corners.proofs.list_of_corner.combined_by.Goals as goal
 
 pub loop-corner-init : goal.loop-corner-init
-loop-corner-init c = combined_first c.args.circuit.now c.args.techs.now c.index-techs-0.result _ _
-    (table_at c.args.techs.now 0 c.index-techs-0.result (omega (arith, c.requires.some))
-    c.index-techs-0.is) c.in_ok-first.ensures.ok c.in_ok-combined.ensures
+loop-corner-init c = search (arith, combined_first, table_at)
 
 pub include-requires-clause-constraints : goal.include-requires-clause-constraints
 include-requires-clause-constraints c =
@@ -22,13 +20,7 @@ include-requires-clause-corners c =
     c.loop-corner.invariant.is.named ∙ include-requires-clause-constraints c
 
 pub loop-corner-preserved : goal.loop-corner-preserved
-loop-corner-preserved c =
-    let tech = c.index-techs-corner.result in
-    let corner = c.loop-corner.corner in
-    combined_more c.args.circuit.now c.args.techs.now corner c.loop-corner.combined
-    c.loop-corner.invariant tech c.in_ok-next.next
-    (table_at c.args.techs.now corner tech c.loop-corner-test.true c.index-techs-corner.is)
-    c.in_ok-next.ensures.ok c.include.new.self (rw c.as_slice.ensures at c.include.ensures)
+loop-corner-preserved c = search (arith, combined_more, table_at)
 
 pub returns-clause-ok : goal.returns-clause-ok
 returns-clause-ok c =

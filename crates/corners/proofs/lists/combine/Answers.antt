@@ -5,28 +5,10 @@ use Rattle.corners.proofs.SmallLemmas.{small_of_each}
 use Rattle.corners.proofs.lists.combine.Goals as goal
 
 pub loop-corner-init : goal.loop-corner-init
-loop-corner-init c =
-    let lists = c.as_slice-lists.result.now in
-    let some : 0 < length lists = rw c.as_slice-lists.ensures (omega (arith, c.requires.some)) in
-    let first : c.from_vec.result ≡ get_or lists 0 c.index-lists-0.result =
-    c.from_vec.ensures ∙ c.in_ok-first.ensures.items_if_clones_equal (λ x y same. same)
-    ∙ c.as_slice.ensures ∙ c.index-lists-0.is in
-    rw (take_more lists 0 c.index-lists-0.result some, ← first) c.in_ok-combined.ensures
+loop-corner-init c = search (arith, take_more)
 
 pub include-requires-clause-constraints : goal.include-requires-clause-constraints
-include-requires-clause-constraints c =
-    let lists = c.as_slice-lists.result.now in
-    let corner = c.loop-corner.corner in
-    let within : corner < length lists = omega (arith, c.loop-corner-test.true) in
-    let some = c.loop-corner.auto.corner in
-    let taken = length-take-le corner lists (omega (arith, within)) in
-    let place = c.index-lists-corner.result in
-    let all = rw (← c.as_slice-lists.ensures) at c.requires.parallel in
-    let parallel = all 0 place (omega (arith, some, within)) corner place within in
-    sym (c.loop-corner.invariant.lengths 0 place (omega (arith, some, taken)))
-    ∙ ap length (get_or-take corner lists 0 place (omega (arith, some)))
-    ∙ parallel.lengths
-    ∙ ap length (sym (c.as_slice-in-loop-corner.ensures ∙ c.index-lists-corner.is))
+include-requires-clause-constraints c = search (arith, length-take-le, get_or-take)
 
 pub include-requires-clause-corners : goal.include-requires-clause-corners
 include-requires-clause-corners c =

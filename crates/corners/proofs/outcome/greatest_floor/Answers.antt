@@ -26,13 +26,7 @@ loop-tech-preserved c =
     (greatest_next techs corner greatest tech c.loop-tech-test.true c.loop-tech.invariant))
 
 pub returns-clause-greatest : goal.returns-clause-greatest
-returns-clause-greatest c =
-    let all : c.loop-tech.tech-index ≡ length c.args.techs.now =
-    omega (arith, c.loop-tech-test.false, c.loop-tech.auto.tech-index-end) in
-    greatest_of_all c.args.techs.now _ (rw all at c.loop-tech.invariant)
+returns-clause-greatest c = search (arith, greatest_of_all)
 
 pub returns-clause-small : goal.returns-clause-small
-returns-clause-small c =
-    let all : c.loop-tech.tech-index ≡ length c.args.techs.now =
-    omega (arith, c.loop-tech-test.false, c.loop-tech.auto.tech-index-end) in
-    small_floor c.args.techs.now _ (rw all at c.loop-tech.invariant)
+returns-clause-small c = search (arith, small_floor)

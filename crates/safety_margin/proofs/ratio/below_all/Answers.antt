@@ -36,8 +36,4 @@ asked_read q p den num product some fine from_zero short den_is num_is product_i
     at q p some fine from_zero short = omega (arith, ints)
 
 pub returns : goal.returns
-returns c =
-    let asked = asked_read c.args.period.den c.args.period.num c.den.result c.num.result
-    c.product.result c.args.period.lowest.some_den c.requires.fine c.requires.from_zero
-    c.requires.short c.den.ensures.value c.num.ensures.value c.product.ensures.value in
-    whole c.args.period c.of.result _ c.of.ensures.value c.of.ensures.den asked
+returns c = search (arith, asked_read, whole)

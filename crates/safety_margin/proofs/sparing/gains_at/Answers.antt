@@ -14,17 +14,13 @@ read z other is small = ap kept is ∙ at other small
 
 -- what is below 2^40 is below 2^64
 wider : (z : ℤ) → IsBelow (2 ^ 40) z → IsBelow (2 ^ 64) z
-wider z low = record {
-  above = omega (arith, ints, low.above);
-  below = omega (arith, ints, low.below);
-}
+wider z low = search (arith, ints)
 
 -- the code's product
 product_is : (a b first second whole : ℤ) → a ≡ first → b ≡ second → IsBelow (2 ^ 64) first
     → IsBelow (2 ^ 40) second → whole ≡ kept a *ℤ kept b → whole ≡ first *ℤ second
 product_is a b first second whole a_is b_is first_small second_small is =
-    is ∙ ap (λ z. z *ℤ kept b) (read a first a_is first_small)
-    ∙ ap (λ z. first *ℤ z) (read b second b_is (wider second second_small))
+    search (arith, kept, read, wider)
 
 -- differences of small products
 fits : (a b : ℤ) → IsBelow (2 ^ 105) a → IsBelow (2 ^ 105) b → FitsSigned w128 (kept a -ℤ kept b)
@@ -109,9 +105,7 @@ product-requires-2-clause-b c =
     (wider c.args.share.den parts.share_den)) parts.share_den
 
 pub overflow_sub-result : goal.overflow_sub-result
-overflow_sub-result c =
-    fits c.product-2.result c.product-spared.result c.product-2.ensures.small
-    c.product-spared.ensures.small
+overflow_sub-result c = search (arith, fits)
 
 pub overflow_sub-result-2 : goal.overflow_sub-result-2
 overflow_sub-result-2 c = fits_alone c.product-spared.result c.product-spared.ensures.small

@@ -35,10 +35,4 @@ returns-clause-sparing c =
     })
 
 pub returns-clause-small : goal.returns-clause-small
-returns-clause-small c =
-    let gains = c.gains_at-gains.result in
-    rw (scale_read gains.scale gains.valid.some gains.valid.fine) (record {
-      some_den = gains.valid.some;
-      low_den = gains.valid.fine;
-      arrivals = c.in_ok-at.ensures.small;
-    })
+returns-clause-small c = search (arith, scale_read)

@@ -8,9 +8,7 @@ loop-place-init c = including_none c.args.list.now c.args.corner c.args.self.now
     c.requires.constraints c.requires.corners
 
 pub loop-place-preserved : goal.loop-place-preserved
-loop-place-preserved c = including_next c.args.list.now c.args.corner c.args.self.now
-    c.loop-place.place c.loop-place.self c.include_at.new.self _ c.loop-place.invariant
-    c.loop-place-test.true refl c.include_at.ensures
+loop-place-preserved c = search (arith, including_next)
 
 pub returns : goal.returns
 returns c =
