@@ -1,7 +1,7 @@
 use Rattle.report_text.proofs.Vocabulary.{sym, ap, ◌∙◌}
 use Rattle.report_text.proofs.ScanLemmas.{form_read, takes_then}
 use Rattle.report_text.proofs.TimingLines.{shown_fields}
-use Rattle.report_text.proofs.timing_values.ShowLineLine.read.Goals as goal
+use Rattle.report_text.proofs.timing_values.OptionU32Line.read.Goals as goal
 
 pub returns-then-has_word : goal.returns-then-has_word
 returns-then-has_word c =
