@@ -12,7 +12,7 @@ pub use Rattle.report_text.specs.Laws.{OneReport, OneFault, NoFaultOfReport, Rep
 pub use Rattle.report_text.specs.NamesOf.{DenotesRegister, DenotesSignal, signal_names}
 pub use Rattle.report_text.specs.Parts.{HasParts, scale_in, whole}
 pub use Rattle.report_text.specs.Pieces.{suffix, HasSmallLengths}
-pub use Rattle.report_text.specs.ReportFaults.{is_line_feed, words_of, HasFault, fault_of, unknown_on}
+pub use Rattle.report_text.specs.ReportFaults.{is_line_feed, words_of, HasFault, fault_of}
 pub use Rattle.report_text.specs.Rows.{Counted, HasPathed, HasRows}
 pub use Rattle.report_text.specs.Scans.{flaw_in, ReadsForm, LineLeft, EndsIn, Keeps, Takes, TakesNext}
 pub use Rattle.report_text.specs.TimingValues.{DenotesTimed, DenotesPeriod, DenotesShow, DenotesConstraint, DenotesPath, DenotesLead}

@@ -1,6 +1,6 @@
 //! What is left of a text that is read line by line.
 
-ghost use Rattle.report_text.specs.Vocabulary.{◌≡◌, ◌==◌, map, position, IfOk, is_line_feed, words_of, Left, ◌<◌, length, IfErr, TakesLine, HasNoLine};
+ghost use Rattle.report_text.specs.Vocabulary.{[], None, Some, Extra, if◌then◌else◌, ◌≡◌, ◌==◌, map, position, IfOk, is_line_feed, words_of, Left, ◌<◌, length, IfErr, TakesLine, HasNoLine};
 
 use crate::fault::ReportFault;
 use cts_base::NoMemory;
@@ -38,11 +38,17 @@ impl<'a> Cursor<'a> {
         self.line
     }
 
-    /// Whether nothing is left.
-    pub(crate) fn is_at_end(&self) -> bool
-        ensures { result ≡ (length self.now.text == 0) }
+    /// Nothing may be left.
+    pub(crate) fn end(&self) -> Result<(), ReportFault>
+        ensures ok { IfOk result (λ _. self.now.text ≡ []) }
+        ensures fault { IfErr result (λ found. Some found
+            ≡ (if length self.now.text == 0 then None else Some (Extra self.now.line))) }
     {
-        self.rest.is_empty()
+        if self.rest.is_empty() {
+            Ok(())
+        } else {
+            Err(ReportFault::Extra(self.line))
+        }
     }
 
     /// Takes the next line, without its line feed.
