@@ -46,12 +46,11 @@ pub use Rattle.report_text.specs.Vocabulary.{HasBody, arrivals_in, begin_of, len
 pub use Rattle.report_text.specs.DenotedReports.{timed_line, denoted_lines, shows_in, sink_reach, lines_after}
 pub use Rattle.report_text.specs.Fields.{AreFewSteps, IsFormed, IsFractionForm, IsWholeSteps, IsFirstFlaw, LineHasFlaw, NamesRegister, NamesSignal, EachWord, IsFit, IsKnown, IsWithin}
 pub use Rattle.report_text.specs.Forms.{lead_forms, forms_of, fields_of, register_fields, has_points, merge_fields, node_fields, pointed_fields, points_of, total_fields}
-pub use Rattle.report_text.specs.Headings.{shown_line}
 pub use Rattle.report_text.specs.LineFields.{Period, Steps, Field, Register}
 pub use Rattle.report_text.specs.ReportFaults.{HasFirstFault, cycle_denoted, den_denoted, scale_denoted, version_denoted, word_at, is_space}
 pub use Rattle.report_text.specs.Rows.{lines_of, SayEach}
 pub use Rattle.report_text.specs.Scans.{Taken}
-pub use Rattle.report_text.specs.TimingValues.{IsFlawless}
+pub use Rattle.report_text.specs.TimingValues.{IsFlawless, shown_line}
 pub use Rattle.report_text.specs.Values.{merged_line, placed_line, sourced_line}
 pub use Rattle.report_text.specs.Walks.{Reads}
 pub use Rattle.report_text.specs.declared.field.Flaw.TheVariants.{Unknown, Unfit, Large}

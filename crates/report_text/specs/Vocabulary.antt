@@ -5,7 +5,7 @@ pub use Rattle.report_text.specs.DenotedReports.{arrivals_in, begin_of, lengths_
 pub use Rattle.report_text.specs.Fields.{AreSteps, WordHasFlaw}
 pub use Rattle.report_text.specs.FlawOrder.{rank, sooner_flaw}
 pub use Rattle.report_text.specs.Forms.{forms_after, cycle_forms, is_word, length_field, register_named, slack_field, constraint_fields}
-pub use Rattle.report_text.specs.Headings.{HasHeading, HasShown, IsSmallCount, count_of, heading_forms}
+pub use Rattle.report_text.specs.Headings.{HasHeading, HasShown, count_of, heading_forms}
 pub use Rattle.report_text.specs.JudgedFractions.{HasStepsFlaw, IsBetween, IsNegativeQuotient, IsRefusedFor}
 pub use Rattle.report_text.specs.Keywords.{keyword_text, version_text}
 pub use Rattle.report_text.specs.Laws.{OneReport, OneFault, NoFaultOfReport, ReportOfNoFault, FaultOrReport, HasFaultOrReport}
@@ -15,7 +15,7 @@ pub use Rattle.report_text.specs.Pieces.{suffix, HasSmallLengths}
 pub use Rattle.report_text.specs.ReportFaults.{is_line_feed, words_of, HasFault, fault_of}
 pub use Rattle.report_text.specs.Rows.{Counted, HasPathed, HasRows}
 pub use Rattle.report_text.specs.Scans.{flaw_in, ReadsForm, LineLeft, EndsIn, Keeps, Takes, TakesNext}
-pub use Rattle.report_text.specs.TimingValues.{DenotesTimed, DenotesPeriod, DenotesShow, DenotesConstraint, DenotesPath, DenotesLead}
+pub use Rattle.report_text.specs.TimingValues.{IsSmallCount, DenotesTimed, DenotesPeriod, DenotesShow, DenotesConstraint, DenotesPath, DenotesLead}
 pub use Rattle.report_text.specs.Values.{IsSmallScale, SaysMerge, SaysNode, SaysSource, SaysTotal, coordinates}
 pub use Rattle.report_text.specs.Walks.{Left, TakesLine, HasNoLine, Stops, DenotesLine, ReadsLine, StopsLine, DenotesVersion}
 pub use Rattle.report_text.specs.WireLines.{wire_line}

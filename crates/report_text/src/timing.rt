@@ -4,7 +4,7 @@ ghost use Rattle.report_text.specs.Vocabulary.{◌≡◌, ◌<◌, ◌≤ℤ◌,
 
 use crate::line::{push_count, push_line, push_line_for, push_number, push_word};
 use crate::period::{push_period, push_show};
-use crate::printed::Printed;
+use crate::report::Printed;
 use cts_base::{Fraction, Listed, NoMemory, push_fraction, push_quotient};
 use cts_model::{Circuit, Constraint, Lead, PeriodShow, Schedule, Slack, Version};
 
