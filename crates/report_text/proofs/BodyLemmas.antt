@@ -1,5 +1,5 @@
 -- The first lines of a report, what shows its period, and the sections after it.
-use Rattle.report_text.proofs.Vocabulary.{◌≡◌, ℕ, Option, Some, None, List, [], ◌∷◌, codes, map, refl, ap, ◌∙◌, subst, arith, append_assoc, ◌≤◌, ◌+◌, ◌-◌, ◌*◌, ◌++◌, append-nil, range_with_len, Circuit, Constraint, Cycle, Version, First, Second, Words, count_line, line_for, Lead, ReportFault, Form, Scale, Fraction, ShowLine, HasHeading, HasShown, IsSmallCount, shown_line, HasPathed, HasRows, Counted, IsFlawless, DenotesConstraint, DenotesPeriod, DenotesShow, DenotesLead, Left, Reads, ReadsLine, Stops, DenotesLine, DenotesVersion, DenotesTimed, Timed, HasBody, count_in, forms_after, HasFirstFault}
+use Rattle.report_text.proofs.Vocabulary.{◌≡◌, ℕ, Option, Some, List, [], ◌∷◌, codes, map, refl, ap, ◌∙◌, subst, arith, append_assoc, ◌≤◌, ◌+◌, ◌-◌, ◌*◌, ◌++◌, append-nil, range_with_len, Circuit, Constraint, Cycle, Version, First, Second, Words, count_line, line_for, Lead, ReportFault, Form, Scale, Fraction, HasHeading, HasShown, IsSmallCount, HasPathed, HasRows, Counted, IsFlawless, DenotesConstraint, DenotesPeriod, DenotesShow, DenotesLead, Left, Reads, ReadsLine, Stops, DenotesLine, DenotesVersion, DenotesTimed, Timed, HasBody, count_in, forms_after, HasFirstFault}
 use Rattle.cts_model.specs.declared.report.Version.TheVariants as version
 use Rattle.report_text.specs.declared.form.Form.TheVariants as form
 use Rattle.report_text.specs.declared.field.Keyword.TheVariants as word
@@ -13,15 +13,6 @@ pub read_as : (circuit : Circuit) (scale other : Scale) (form : Form) (words lin
     → IsFlawless circuit other form words → words ≡ line
     → Reads circuit other (form ∷ []) (line ∷ []) old new
 read_as circuit scale other form words line old new read flawless is = search arith
-
--- the line that denotes what shows the period
-show_line : (words : Words) (count : Option ℕ) → DenotesShow words count → words ≡ shown_line count
-show_line words None denoted = denoted
-show_line words (Some count) denoted = denoted.0
-
-show_small : (words : Words) (count : Option ℕ) → DenotesShow words count → IsSmallCount count
-show_small words None denoted = tt
-show_small words (Some count) denoted = (denoted.1, denoted.2)
 
 module _ {circuit : Circuit} {scale : Scale} {old first : Left} {version : Version}
     (denoted : DenotesLine circuit scale form.Version DenotesVersion old first version) where
@@ -43,20 +34,19 @@ module _ {circuit : Circuit} {scale : Scale} {first second : Left} {period : Fra
 
 -- the three lines
 pub heading_read : (circuit : Circuit) (scale : Scale)
-    (old first second new : Left) (version : Version) (period : Fraction) (show : ShowLine)
+    (old first second new : Left) (version : Version) (period : Fraction) (count : Option ℕ)
     → DenotesLine circuit scale form.Version DenotesVersion old first version
     → DenotesLine circuit scale form.Period DenotesPeriod first second period
-    → DenotesLine circuit scale form.Show (λ words line. DenotesShow words line.count)
-    second new show → HasHeading circuit old new
-    (record { version = version; period = period; count = show.count })
-heading_read circuit scale old first second new version period show is_version is_period is_show =
+    → DenotesLine circuit scale form.Show DenotesShow second new count → HasHeading circuit old new
+    (record { version = version; period = period; count = count })
+heading_read circuit scale old first second new version period count is_version is_period is_show =
     record {
       lines = λ other. read_more (read_as _ _ _ _ _ _ old _ is_version.line is_version.line.flawless
           is_version.denoted) _ _ new (read_more (read_as _ _ _ _ _ _ _ _ is_period.line
           is_period.line.flawless is_period.denoted.line) _ _ new (read_as _ _ _ _ _ _ _ new
-          is_show.line is_show.line.flawless (show_line _ _ is_show.denoted)));
+          is_show.line is_show.line.flawless is_show.denoted.0));
       small = is_period.denoted.small;
-      count = show_small _ _ is_show.denoted;
+      count = is_show.denoted.1;
     }
 
 -- the constraints of a cycle show the period

@@ -269,14 +269,13 @@ heading_passed circuit scale more old sound =
     let period = denoted_passed _ _ _ (form.Show ∷ more) _ _ (λ words some flawless.
     period_found circuit scale _ flawless) version.rest in
     let show = denoted_passed _ _ _ _ _ _ (λ words some flawless.
-    let (count, denoted) = show_found circuit scale _ flawless in
-    (record { count = count }, denoted)) period.rest in
+    show_found circuit scale _ flawless) period.rest in
     record {
       new = show.new;
       value = record {
         version = version.value;
         period = period.value;
-        count = show.value.count;
+        count = show.value;
       };
       has = heading_read _ _ _ _ _ _ _ _ _ version.has period.has show.has;
       rest = show.rest;

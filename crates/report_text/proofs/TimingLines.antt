@@ -53,7 +53,7 @@ module _ (circuit : Circuit) (scale : Scale) where
       at true flawless = search (arith, line_spelled)
       at false flawless =
           let line = line_spelled circuit cycle_fields words (tt, (omega arith, tt)) flawless in
-          (Some line.values.1.0, (line.are, line.admitted.1.0.0, line.admitted.1.0.1))
+          (Some line.values.1.0, (line.are, (line.admitted.1.0.0, line.admitted.1.0.1)))
 
   pub show_plain : (count : Option ℕ) → IsSmallCount count
       → IsFlawless circuit scale form.Show (shown_line count)

@@ -15,13 +15,12 @@ pub use Rattle.std.proofs.lemmas.Option.{get_or_from_slice_get, slice_get-get_or
 pub use Rattle.std.proofs.lemmas.Result.{IfOk-weaker, IfErr-weaker}
 pub use Rattle.std.proofs.lemmas.Slice.Eq.{bytes_eq-Decides}
 unfoldable pub use Rattle.std.specs.Fmt.{digits}
-pub use Rattle.std.specs.Fmt.{signed_decimal, digits_onto, digit_glyph}
+pub use Rattle.std.specs.Fmt.{digits_onto, digit_glyph}
 pub use Rattle.std.specs.Int.{◌∣◌, IsGcd}
 pub use Rattle.std.specs.Int.RustNames.{int_div, int_rem}
-pub use Rattle.std.specs.List.{range_with_len, join_with_byte, flat_map, list_any, AllByRecursion, slice_split, after_first, position_or_len, list_all}
+pub use Rattle.std.specs.List.{join_with_byte, AllByRecursion, list_all}
 pub use Rattle.std.specs.Ordering.{int_eq}
-pub use Rattle.std.specs.Str.{bytes_eq}
-pub use Rattle.std.specs.Str.Parse.{AllDigits, IsNumeral, digits_value, starts_with_minus}
+pub use Rattle.std.specs.Str.Parse.{AllDigits, IsNumeral, starts_with_minus}
 pub use mir.Syntax.{w128}
 pub use Rattle.cts_base.proofs.FractionReading.{few_digits, held_same}
 pub use Rattle.cts_base.proofs.GreatestDivisors.{same_factor, up_to_second, quotient_text_is, lowest_sizes}
@@ -29,68 +28,29 @@ pub use Rattle.cts_base.proofs.OneNumberText.{slash_differs, HasNoSlash, one_spl
 pub use Rattle.cts_base.proofs.OneSpelling.{fraction_spelled, one_quotient, plain_no_minus, quotient_some, one_whole, whole_no_slash, whole_text, whole_spelled, quotient_text_spelled}
 pub use Rattle.cts_base.proofs.Quotients.{negative, int_div-le, lowest_quotients, same_value}
 unfoldable pub use Rattle.cts_base.specs.Fractions.{quotient_text}
-pub use Rattle.cts_base.specs.Fractions.{IsLowest, fraction_text, HasSizeBelow, divisor_up_to}
-pub use Rattle.cts_base.specs.NumberTexts.{SpellsWhole, SpellsQuotient, HaveSmallSizes, IsNoFraction, kept_size, IsPlainNumeral, is_slash}
-pub use Rattle.cts_base.specs.declared.fraction.Fraction.{Fraction}
-pub use Rattle.cts_model.specs.declared.circuit.Circuit.{Circuit}
-pub use Rattle.cts_model.specs.declared.constraint.Constraint.{Constraint}
+pub use Rattle.cts_base.specs.Fractions.{divisor_up_to}
+pub use Rattle.cts_base.specs.NumberTexts.{kept_size, IsPlainNumeral}
 pub use Rattle.cts_model.specs.declared.period.PeriodShow.{PeriodShow}
 pub use Rattle.cts_model.specs.declared.period.PeriodShow.TheVariants.{Cycle, Floor}
-pub use Rattle.cts_model.specs.declared.place.Point.{Point}
-pub use Rattle.cts_model.specs.declared.report.Report.{Report}
-pub use Rattle.cts_model.specs.declared.report.Version.{Version}
-pub use Rattle.cts_model.specs.declared.report.Version.TheVariants.{First, Second}
-pub use Rattle.cts_model.specs.declared.schedule.Lead.{Lead}
 pub use Rattle.cts_model.specs.declared.schedule.Lead.TheVariants.{Zero, Tight}
 pub use Rattle.cts_model.specs.declared.signal.Signal.{Signal}
-pub use Rattle.cts_model.specs.declared.tech.Tech.{Tech}
-pub use Rattle.cts_model.specs.declared.tree.Show.{Show}
 pub use Rattle.cts_model.specs.declared.tree.Show.TheVariants.{Root, Pair, Sink}
-pub use Rattle.cts_model.specs.declared.tree.Wire.{Wire}
 pub use Rattle.cts_model.specs.netlist.Circuits.{host_name, is_named, has_host}
 pub use Rattle.cts_model.specs.netlist.Kinds.{is_host}
-pub use Rattle.cts_model.specs.netlist.Paths.{register_name}
-pub use Rattle.cts_model.specs.placement.Points.{IsBelow, IsPointBelow}
-pub use Rattle.cts_model.specs.report.ReportBounds.{HasSmallWeight, HasSmallWeights, IsBetweenRegisters, ShowsPeriodAmong, count_in, cycle_length, HasTimingBounds, HasTreeBounds, IsMergeShow, IsOfSize, IsSmallWire, IsSourceShow, IsWithinBounds, ShowsAmong, IsSmallMerge, Spells, LeadsAmong, IsSmallLead}
-pub use Rattle.cts_model.specs.report.ReportLines.{lead_line, lines_below, merge_line_at, no_wire, node_line_at, origin, period_show_lines, register_line_at, report_lines, show_words, source_line, timing_lines, tree_lines, version_line, path_line, signal_name, number_at, length_text, pathed_lines, point_words, wire_words}
+pub use Rattle.cts_model.specs.report.ReportBounds.{HasTreeBounds}
 pub use Rattle.cts_model.specs.text.Names.{is_name, is_short, is_mark, is_name_byte}
-pub use Rattle.cts_model.specs.text.PrintedLines.{Words, line_for, count_line, period_line, register_line, text_of, line_of, constraint_line, slack_text}
-pub use Rattle.cts_model.specs.timing.Schedules.{IsSmallPeriod, arrival_of}
-pub use Rattle.cts_model.specs.timing.Slacks.{AreSmallSlacks, IsSmallSlack}
-pub use Rattle.cts_model.specs.tree.Problems.{grid_of, scheduled_length}
 pub use Rattle.cts_model.specs.tree.Topologies.{root_of, source_of}
 pub use Rattle.name_set.proofs.OneName.{one_register, one_signal, few_registers}
-pub use Rattle.name_set.specs.RegisterNames.{register_names}
-pub use Rattle.report_text.specs.Bodies.{HasBody}
-pub use Rattle.report_text.specs.DenotedReports.{timed_line, arrivals_in, begin_of, denoted_lines, lengths_in, merges_in, places_in, reaches_in, report_denoted, shows_in, sink_reach, sink_reaches, wires_in, lines_after}
-pub use Rattle.report_text.specs.Fields.{AreSteps, AreFewSteps, IsFormed, IsFractionForm, IsWholeSteps, WordHasFlaw, IsFirstFlaw, LineHasFlaw, NamesRegister, NamesSignal, EachWord, IsFit, IsKnown, IsWithin}
-pub use Rattle.report_text.specs.FlawOrder.{sooner_flaw, rank}
-pub use Rattle.report_text.specs.Forms.{cycle_forms, forms_after, lead_forms, register_named, forms_of, fields_of, constraint_fields, length_field, is_word, register_fields, has_points, merge_fields, node_fields, pointed_fields, points_of, total_fields, slack_field}
-pub use Rattle.report_text.specs.Headings.{IsSmallCount, count_of, shown_line, HasHeading, HasShown, heading_forms}
-pub use Rattle.report_text.specs.JudgedFractions.{HasStepsFlaw, IsBetween, IsNegativeQuotient, IsRefusedFor}
-pub use Rattle.report_text.specs.Keywords.{keyword_text, version_text}
-pub use Rattle.report_text.specs.Laws.{HasFaultOrReport, OneReport}
+pub use Rattle.report_text.specs.Common.{signed_decimal, range_with_len, flat_map, list_any, slice_split, after_first, position_or_len, bytes_eq, digits_value, IsLowest, fraction_text, HasSizeBelow, SpellsWhole, SpellsQuotient, HaveSmallSizes, IsNoFraction, is_slash, Fraction, Circuit, Constraint, Point, Report, Version, First, Second, Lead, Tech, Show, Wire, register_name, IsBelow, IsPointBelow, HasSmallWeight, HasSmallWeights, IsBetweenRegisters, ShowsPeriodAmong, count_in, cycle_length, HasTimingBounds, IsMergeShow, IsOfSize, IsSmallWire, IsSourceShow, IsWithinBounds, ShowsAmong, IsSmallMerge, Spells, LeadsAmong, IsSmallLead, lead_line, lines_below, merge_line_at, no_wire, node_line_at, origin, period_show_lines, register_line_at, report_lines, show_words, source_line, timing_lines, tree_lines, version_line, path_line, signal_name, number_at, length_text, pathed_lines, point_words, wire_words, Words, line_for, count_line, period_line, register_line, text_of, line_of, constraint_line, slack_text, IsSmallPeriod, arrival_of, AreSmallSlacks, IsSmallSlack, grid_of, scheduled_length, register_names, ReportFault, NoMemory, Extra, BadLine, Missing, Flaw, Keyword, Form, Scale, Heading, Parts, Timed, MergeLine, NodeLine, SourceLine}
+pub use Rattle.report_text.specs.Vocabulary.{HasBody, arrivals_in, begin_of, lengths_in, merges_in, places_in, reaches_in, report_denoted, sink_reaches, wires_in, AreSteps, WordHasFlaw, sooner_flaw, rank, cycle_forms, forms_after, register_named, constraint_fields, length_field, is_word, slack_field, IsSmallCount, count_of, HasHeading, HasShown, heading_forms, HasStepsFlaw, IsBetween, IsNegativeQuotient, IsRefusedFor, keyword_text, version_text, HasFaultOrReport, OneReport, DenotesRegister, DenotesSignal, signal_names, HasParts, scale_in, whole, suffix, is_line_feed, words_of, HasFault, fault_of, HasPathed, HasRows, Counted, flaw_in, EndsIn, Keeps, LineLeft, ReadsForm, Takes, TakesNext, DenotesTimed, DenotesConstraint, DenotesLead, DenotesPeriod, DenotesShow, DenotesPath, SaysMerge, SaysNode, SaysSource, IsSmallScale, SaysTotal, coordinates, Left, ReadsLine, Stops, DenotesLine, DenotesVersion, TakesLine, StopsLine}
+pub use Rattle.report_text.specs.DenotedReports.{timed_line, denoted_lines, shows_in, sink_reach, lines_after}
+pub use Rattle.report_text.specs.Fields.{AreFewSteps, IsFormed, IsFractionForm, IsWholeSteps, IsFirstFlaw, LineHasFlaw, NamesRegister, NamesSignal, EachWord, IsFit, IsKnown, IsWithin}
+pub use Rattle.report_text.specs.Forms.{lead_forms, forms_of, fields_of, register_fields, has_points, merge_fields, node_fields, pointed_fields, points_of, total_fields}
 pub use Rattle.report_text.specs.LineFields.{Period, Steps, Field, Register}
-pub use Rattle.report_text.specs.NamesOf.{DenotesRegister, DenotesSignal, signal_names}
-pub use Rattle.report_text.specs.Parts.{HasParts, scale_in, whole}
-pub use Rattle.report_text.specs.Pieces.{suffix}
-pub use Rattle.report_text.specs.ReportFaults.{HasFirstFault, is_line_feed, words_of, HasFault, cycle_denoted, den_denoted, scale_denoted, version_denoted, word_at, fault_of, is_space}
-pub use Rattle.report_text.specs.Rows.{lines_of, HasPathed, HasRows, Counted, SayEach}
-pub use Rattle.report_text.specs.Scans.{flaw_in, EndsIn, Keeps, LineLeft, ReadsForm, Taken, Takes, TakesNext}
-pub use Rattle.report_text.specs.TimingValues.{DenotesTimed, DenotesConstraint, DenotesLead, IsFlawless, DenotesPeriod, DenotesShow, DenotesPath}
-pub use Rattle.report_text.specs.Values.{SaysMerge, SaysNode, SaysSource, merged_line, placed_line, sourced_line, IsSmallScale, SaysTotal, coordinates}
-pub use Rattle.report_text.specs.Walks.{Left, Reads, ReadsLine, Stops, DenotesLine, DenotesVersion, TakesLine, StopsLine}
-pub use Rattle.report_text.specs.declared.fault.ReportFault.{ReportFault}
-pub use Rattle.report_text.specs.declared.fault.ReportFault.TheVariants.{NoMemory, Extra, BadLine, Missing}
-pub use Rattle.report_text.specs.declared.field.Flaw.{Flaw}
+pub use Rattle.report_text.specs.ReportFaults.{HasFirstFault, cycle_denoted, den_denoted, scale_denoted, version_denoted, word_at, is_space}
+pub use Rattle.report_text.specs.Rows.{lines_of, SayEach}
+pub use Rattle.report_text.specs.Scans.{Taken}
+pub use Rattle.report_text.specs.TimingValues.{IsFlawless, shown_line}
+pub use Rattle.report_text.specs.Values.{merged_line, placed_line, sourced_line}
+pub use Rattle.report_text.specs.Walks.{Reads}
 pub use Rattle.report_text.specs.declared.field.Flaw.TheVariants.{Unknown, Unfit, Large}
-pub use Rattle.report_text.specs.declared.field.Keyword.{Keyword}
-pub use Rattle.report_text.specs.declared.form.Form.{Form}
-pub use Rattle.report_text.specs.declared.form.Scale.{Scale}
-pub use Rattle.report_text.specs.declared.sections.Heading.{Heading}
-pub use Rattle.report_text.specs.declared.sections.Parts.{Parts}
-pub use Rattle.report_text.specs.declared.timing_values.ShowLine.{ShowLine}
-pub use Rattle.report_text.specs.declared.timing_values.Timed.{Timed}
-pub use Rattle.report_text.specs.declared.tree_values.MergeLine.{MergeLine}
-pub use Rattle.report_text.specs.declared.tree_values.NodeLine.{NodeLine}
-pub use Rattle.report_text.specs.declared.tree_values.SourceLine.{SourceLine}

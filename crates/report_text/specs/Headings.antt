@@ -1,20 +1,12 @@
 -- What the first lines of a report tell: its version, its period and what shows it.
-use Rattle.report_text.specs.Common.{◌≡◌, ◌<◌, ◌≤◌, ℕ, Option, Some, None, List, [], ◌∷◌, All, codes, drop, length, Circuit, Version, Words, count_line, floor_line, period_line, HasSmallWeights, ShowsPeriodAmong, count_in, cycle_length, period_show_lines, version_line, IsSmallPeriod, Form, Scale, Heading, Shown}
+use Rattle.report_text.specs.Common.{◌≡◌, ◌<◌, ◌≤◌, ℕ, Option, Some, None, List, [], ◌∷◌, All, drop, length, Circuit, Version, period_line, HasSmallWeights, ShowsPeriodAmong, count_in, cycle_length, period_show_lines, version_line, IsSmallPeriod, Form, Scale, Heading, Shown}
 use Rattle.report_text.specs.declared.form.Form.TheVariants as form
 use Rattle.report_text.specs.Forms.{cycle_forms}
+use Rattle.report_text.specs.TimingValues.{IsSmallCount, shown_line}
 use Rattle.report_text.specs.Walks.{Left, Reads}
 
 abbrev pub heading_forms : List Form
 heading_forms = form.Version ∷ form.Period ∷ form.Show ∷ []
-
--- the line for what shows the period: how many constraints the cycle has, or the floor
-abbrev pub shown_line : Option ℕ → Words
-shown_line None = floor_line
-shown_line (Some count) = count_line (codes "cycle") count
-
-abbrev pub IsSmallCount : Option ℕ → Type 0
-IsSmallCount None = Unit {0}
-IsSmallCount (Some count) = (1 ≤ count) × (count ≤ 9999)
 
 -- how many constraints the cycle has, none where there is no cycle
 abbrev pub count_of : Option ℕ → ℕ

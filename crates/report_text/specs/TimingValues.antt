@@ -13,11 +13,17 @@ pub record DenotesPeriod (words : Words) (period : Fraction) : Type 0 where
   pub line : words ≡ period_line period
   pub small : IsSmallPeriod period
 
--- how many constraints show the period, or that the floor does
+-- the line for what shows the period: how many constraints the cycle has, or the floor
+abbrev pub shown_line : Option ℕ → Words
+shown_line None = floor_line
+shown_line (Some count) = count_line (codes "cycle") count
+
+abbrev pub IsSmallCount : Option ℕ → Type 0
+IsSmallCount None = Unit {0}
+IsSmallCount (Some count) = (1 ≤ count) × (count ≤ 9999)
+
 abbrev pub DenotesShow : Words → Option ℕ → Type 0
-DenotesShow words None = words ≡ floor_line
-DenotesShow words (Some count) =
-    (words ≡ count_line (codes "cycle") count) × (1 ≤ count) × (count ≤ 9999)
+DenotesShow words count = (words ≡ shown_line count) × IsSmallCount count
 
 pub record DenotesConstraint (circuit : Circuit) (words : Words)
     (constraint : Constraint) : Type 0 where

@@ -1,10 +1,10 @@
 //! What is left of a text that is read line by line.
 
-ghost use Rattle.report_text.specs.Vocabulary.{◌≡◌, ◌==◌, map, position, IfOk, slice_split, is_line_feed, words_of, Left, ◌<◌, length, IfErr, TakesLine, HasNoLine};
+ghost use Rattle.report_text.specs.Vocabulary.{[], None, Some, Extra, if◌then◌else◌, ◌≡◌, ◌==◌, map, position, IfOk, is_line_feed, words_of, Left, ◌<◌, length, IfErr, TakesLine, HasNoLine};
 
 use crate::fault::ReportFault;
 use cts_base::NoMemory;
-use std::alloc::{AllocError, Global};
+use std::alloc::Global;
 use std::marker::Model;
 
 /// What is left of a text, and the number of its first line.
@@ -38,11 +38,17 @@ impl<'a> Cursor<'a> {
         self.line
     }
 
-    /// Whether nothing is left.
-    pub(crate) fn is_at_end(&self) -> bool
-        ensures { result ≡ (length self.now.text == 0) }
+    /// Nothing may be left.
+    pub(crate) fn end(&self) -> Result<(), ReportFault>
+        ensures ok { IfOk result (λ _. self.now.text ≡ []) }
+        ensures fault { IfErr result (λ found. Some found
+            ≡ (if length self.now.text == 0 then None else Some (Extra self.now.line))) }
     {
-        self.rest.is_empty()
+        if self.rest.is_empty() {
+            Ok(())
+        } else {
+            Err(ReportFault::Extra(self.line))
+        }
     }
 
     /// Takes the next line, without its line feed.
@@ -74,13 +80,5 @@ fn first_line_feed(text: &[u8]) -> Option<usize>
 pub(crate) fn words_of(alloc: Global, line: &[u8]) -> Result<Vec<&[u8]>, NoMemory>
     ensures { IfOk result (λ words. map (λ word. word.now) words.items ≡ words_of line.now) }
 {
-    Ok(cut_at_spaces(alloc, line)?)
-}
-
-// The parts of a line between its spaces.
-fn cut_at_spaces(alloc: Global, line: &[u8]) -> Result<Vec<&[u8]>, AllocError>
-    ensures { IfOk result (λ words. map (λ word. word.now) words.items
-        ≡ slice_split (λ byte. byte == 32) line.now) }
-{
-    line.split(|byte| *byte == b' ').collect(alloc)
+    Ok(line.split(|byte| *byte == b' ').collect(alloc)?)
 }

@@ -10,7 +10,6 @@ mod judging;
 pub mod laws;
 mod line;
 mod period;
-mod printed;
 mod reader;
 mod report;
 mod rules;

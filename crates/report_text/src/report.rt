@@ -1,11 +1,21 @@
-ghost use Rattle.report_text.specs.Vocabulary.{◌≡◌, IfOk, Tech, text_of, IsOfSize, IsWithinBounds, report_lines};
+ghost use Rattle.report_text.specs.Vocabulary.{◌≡◌, IfOk, Tech, text_of, IsOfSize, IsWithinBounds, HasSmallLengths, report_lines};
+ghost use Rattle.cts_model.specs.report.OneProof.{size_prop};
 
-use crate::printed::Printed;
 use crate::timing::push_timing;
 use crate::tree::push_tree;
 use cts_base::NoMemory;
 use cts_model::{Circuit, Report};
 use std::alloc::Global;
+
+/// A report that is printed over its circuit: its lists are as long as the circuit has them, and
+/// its lengths are within their bounds.
+#[derive(Drop)]
+pub(crate) struct Printed<'a> {
+    pub circuit: &'a Circuit,
+    pub report: &'a Report,
+    ghost size: { IsOfSize circuit.now report.now } by { size_prop _ _ },
+    ghost lengths: { HasSmallLengths report.now },
+}
 
 /// The text of a report over a circuit.
 ///

@@ -269,10 +269,8 @@ impl<'a> Scan<'a> {
             ≡ register_named rules.now.circuit.now (get_or self.old.words 0 []) }
     {
         let word = self.next();
-        self.keep(
-            read_register(rules, word),
-            rules.circuit.registers.len() as u32,
-        )
+        let all = rules.circuit.registers.len() as u32;
+        self.keep(read_register(rules, word), all)
     }
 }
 

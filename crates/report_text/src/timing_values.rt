@@ -43,30 +43,24 @@ impl Line for Fraction {
     }
 }
 
-/// The line for what shows the period.
-#[derive(Clone, Copy, Debug, PartialEq, Eq)]
-pub(crate) struct ShowLine {
-    /// How many constraints show it, or `None` where the floor does.
-    pub count: Option<u32>,
-}
-
-impl Line for ShowLine {
+// How many constraints show the period, or `None` where the floor does.
+impl Line for Option<u32> {
     ghost due = { λ number. form.Show };
 
-    ghost says = { λ circuit scale number words line. DenotesShow words line.count };
+    ghost says = { λ circuit scale number words count. DenotesShow words count };
 
     fn form(_number: u32) -> Form {
         Form::Show
     }
 
-    fn read(_rules: &Rules, _number: u32, scan: &mut Scan) -> Result<ShowLine, NoMemory> {
+    fn read(_rules: &Rules, _number: u32, scan: &mut Scan) -> Result<Option<u32>, NoMemory> {
         if scan.has_word(0, Keyword::Floor) {
             scan.keyword(Keyword::Floor);
-            return Ok(ShowLine { count: None });
+            return Ok(None);
         }
         scan.keyword(Keyword::Cycle);
         let count = scan.number(1, 9999);
-        Ok(ShowLine { count: Some(count) })
+        Ok(Some(count))
     }
 }
 

@@ -4,7 +4,7 @@ ghost use Rattle.report_text.specs.Vocabulary.{◌≡◌, ◌<◌, ◌^◌, ◌+
 ghost use Rattle.cts_model.specs.declared.tree.Show.TheVariants.{Root};
 
 use crate::line::{push_count, push_node, push_number, push_word};
-use crate::printed::Printed;
+use crate::report::Printed;
 use cts_base::{NoMemory, push_quotient};
 use cts_model::{Circuit, Point, Report, Show, Wire};
 

@@ -8,7 +8,6 @@ use crate::reader::line::read;
 use crate::reader::rows::{read_pathed, read_rows};
 use crate::rules::Rules;
 use crate::sections::{Heading, Shown};
-use crate::timing_values::ShowLine;
 use cts_base::{Fraction, Listed};
 use cts_model::{PeriodShow, Version};
 
@@ -22,11 +21,11 @@ pub(crate) fn read_heading(rules: &Rules, cursor: &mut Cursor) -> Result<Heading
 {
     let version: Version = read(rules, 0, cursor)?;
     let period: Fraction = read(rules, 0, cursor)?;
-    let show: ShowLine = read(rules, 0, cursor)?;
+    let count: Option<u32> = read(rules, 0, cursor)?;
     Ok(Heading {
         version,
         period,
-        count: show.count,
+        count,
     })
 }
 
@@ -45,29 +44,12 @@ pub(crate) fn read_shown(
     ensures fault { IfErr result (Stops rules.now.circuit.now rules.now.scale
         (cycle_forms version (count_of count)) cursor.old) }
 {
-    match count {
-        None => Ok(Shown {
+    let Some(count) = count else {
+        return Ok(Shown {
             shown: PeriodShow::Floor,
             paths: Listed::new(rules.alloc),
-        }),
-        Some(count) => read_constraints(rules, version, count, cursor),
-    }
-}
-
-// Reads so many constraints of a cycle, in the second version with their paths.
-fn read_constraints(
-    rules: &Rules,
-    version: Version,
-    count: u32,
-    cursor: &mut Cursor,
-) -> Result<Shown, ReportFault>
-    requires line { cursor.old.line < 1000 }
-    requires count { IsSmallCount (Some count) }
-    ensures ok { IfOk result (HasShown rules.now.circuit.now rules.now.scale version (Some count)
-        cursor.old cursor.new) }
-    ensures fault { IfErr result (Stops rules.now.circuit.now rules.now.scale
-        (cycle_forms version count) cursor.old) }
-{
+        });
+    };
     match version {
         Version::First => {
             let cycle = read_rows(rules, 0, count, cursor)?;

@@ -1,6 +1,6 @@
 //! A line of a report that is read by the form that is due.
 
-ghost use Rattle.report_text.specs.Vocabulary.{◌≡◌, ◌≢◌, ◌<◌, ℕ, List, length, map, IfOk, IfErr, Words, count_line, keyword_text, fault_of, unknown_on, words_of, ReadsForm, DenotesLine, HasNoLine, ReadsLine, StopsLine, TakesLine, Circuit, Form, Scale};
+ghost use Rattle.report_text.specs.Vocabulary.{◌≡◌, ◌≢◌, ◌<◌, ℕ, List, length, map, IfOk, IfErr, Words, count_line, keyword_text, fault_of, words_of, ReadsForm, DenotesLine, HasNoLine, ReadsLine, StopsLine, TakesLine, Circuit, Form, Scale};
 ghost use Rattle.report_text.specs.declared.fault.ReportFault.TheVariants as faults;
 ghost use Rattle.report_text.specs.declared.form.Form.TheVariants as form;
 
@@ -97,19 +97,11 @@ fn fault_of(form: Form, line: u32, flaw: Flaw) -> ReportFault
     ensures { result ≡ fault_of form line flaw }
 {
     match flaw {
-        Flaw::Form => ReportFault::BadLine(line),
-        Flaw::Unknown => unknown_on(form, line),
-        Flaw::Unfit => ReportFault::BadLine(line),
+        Flaw::Form | Flaw::Unfit => ReportFault::BadLine(line),
+        Flaw::Unknown => match form {
+            Form::Path => ReportFault::UnknownSignal(line),
+            _ => ReportFault::UnknownRegister(line),
+        },
         Flaw::Large => ReportFault::TooLarge(line),
-    }
-}
-
-// The fault of a line on which a name is unknown.
-fn unknown_on(form: Form, line: u32) -> ReportFault
-    ensures { result ≡ unknown_on form line }
-{
-    match form {
-        Form::Path => ReportFault::UnknownSignal(line),
-        _ => ReportFault::UnknownRegister(line),
     }
 }

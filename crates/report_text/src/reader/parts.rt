@@ -1,6 +1,6 @@
 //! The parts of a whole report.
 
-ghost use Rattle.report_text.specs.Vocabulary.{◌≡◌, ◌≢◌, ◌<◌, ◌==◌, ℕ, List, [], length, None, Some, IfOk, IfErr, if◌then◌else◌, Tech, HasHeading, IsSmallCount, HasParts, scale_in, whole, HasFault, NoMemory, Extra};
+ghost use Rattle.report_text.specs.Vocabulary.{◌≡◌, ◌≢◌, ◌<◌, ℕ, List, Some, IfOk, IfErr, Tech, HasHeading, IsSmallCount, HasParts, scale_in, whole, HasFault, NoMemory};
 
 use crate::cursor::Cursor;
 use crate::fault::ReportFault;
@@ -59,23 +59,10 @@ fn read_rest(rules: &Rules, heading: Heading, mut cursor: Cursor) -> Result<Part
 {
     let shown = read_shown(rules, heading.version, heading.count, &mut cursor)?;
     let body = read_body(rules, heading.version, &mut cursor)?;
-    at_end(&cursor)?;
+    cursor.end()?;
     Ok(Parts {
         heading,
         shown,
         body,
     })
-}
-
-// Nothing may be left.
-fn at_end(cursor: &Cursor) -> Result<(), ReportFault>
-    ensures ok { IfOk result (λ _. cursor.now.text ≡ []) }
-    ensures fault { IfErr result (λ found. Some found
-        ≡ (if length cursor.now.text == 0 then None else Some (Extra cursor.now.line))) }
-{
-    if cursor.is_at_end() {
-        Ok(())
-    } else {
-        Err(ReportFault::Extra(cursor.line()))
-    }
 }

@@ -29,15 +29,15 @@ returns-in_err-period-clause-fault c =
     c.read.new.cursor _ (stop_line c.args.rules.now.circuit.now scale form.Period c.read.new.cursor
     _ c.in_err-period.ensures.fault)))
 
-pub returns-in_err-show-clause-fault : goal.returns-in_err-show-clause-fault
-returns-in_err-show-clause-fault c =
-    passed_on _ _ _ c.from_residual-in_err-show.ensures.1 (λ scale. version_then
+pub returns-in_err-count-clause-fault : goal.returns-in_err-count-clause-fault
+returns-in_err-count-clause-fault c =
+    passed_on _ _ _ c.from_residual-in_err-count.ensures.1 (λ scale. version_then
     c.in_ok-version.ensures.ok scale (form.Period ∷ form.Show ∷ []) _
     (period_then c.in_ok-period.ensures.ok scale (form.Show ∷ []) _
     (stop_line c.args.rules.now.circuit.now scale form.Show c.read-2.new.cursor _
-    c.in_err-show.ensures.fault)))
+    c.in_err-count.ensures.fault)))
 
 pub returns-clause-ok : goal.returns-clause-ok
 returns-clause-ok c =
     heading_read _ _ _ _ _ _ _ _ _ c.in_ok-version.ensures.ok c.in_ok-period.ensures.ok
-    c.in_ok-show.ensures.ok
+    c.in_ok-count.ensures.ok

@@ -20,12 +20,12 @@ returns-in_err-body-clause-fault c =
     (length c.args.rules.now.circuit.now.registers)) c.read_shown.new.cursor
     c.in_err-body.field-0.0) same c.in_err-body.ensures.fault) named)
 
-pub returns-in_err-at_end-clause-fault : goal.returns-in_err-at_end-clause-fault
-returns-in_err-at_end-clause-fault c =
-    passed_on _ _ _ c.from_residual-in_err-at_end.ensures.1 (λ named tech text heading
+pub returns-in_err-end-clause-fault : goal.returns-in_err-end-clause-fault
+returns-in_err-end-clause-fault c =
+    passed_on _ _ _ c.from_residual-in_err-end.ensures.1 (λ named tech text heading
     same. after_fault heading tech (rw same at c.in_ok-shown.ensures.ok) _
-    (body_ends (rw same at c.in_ok-body.ensures.ok) _ c.in_err-at_end.ensures.fault))
+    (body_ends (rw same at c.in_ok-body.ensures.ok) _ c.in_err-end.ensures.fault))
 
 pub returns-clause-ok : goal.returns-clause-ok
 returns-clause-ok c tech text heading same =
-    search (arith, c.in_ok-shown.ensures.ok, c.in_ok-body.ensures.ok, c.in_ok-at_end.ensures.ok)
+    search (arith, c.in_ok-shown.ensures.ok, c.in_ok-body.ensures.ok, c.in_ok-end.ensures.ok)
