@@ -77,7 +77,8 @@ cycle_shown {circuit} {scale} {count} {old} {new} cycle small has =
 
 -- and so do those with their paths
 pub pathed_shown : {circuit : Circuit} {scale : Scale} {count : ℕ} {old new : Left}
-    (pathed : List Constraint × List (List ℕ)) → IsSmallCount (Some count) → HasPathed circuit scale count old new pathed
+    (pathed : List Constraint × List (List ℕ)) → IsSmallCount (Some count)
+    → HasPathed circuit scale count old new pathed
     → HasShown circuit scale Second (Some count) old new
     (record { shown = Cycle pathed.0; paths = pathed.1 })
 pathed_shown {circuit} {scale} {count} {old} {new} pathed small has = search arith

@@ -150,8 +150,9 @@ module _ (circuit : Circuit) (scale : Scale) where
       count 0 (omega arith) old ([], [])
       (search (arith, read_none circuit scale old)) sound
     where
-      next : (place : ℕ) (suffix : List Form) (between : Left) (value : List Constraint × List (List ℕ))
-          → place < count → HasPathed circuit scale place old between value
+      next : (place : ℕ) (suffix : List Form) (between : Left)
+          (value : List Constraint × List (List ℕ)) → place < count
+          → HasPathed circuit scale place old between value
           → IsSound circuit scale (form.Constraint ∷ form.Path ∷ suffix) between
           → Passed circuit scale suffix (HasPathed circuit scale (place + 1) old)
       next place suffix between value within has sound =

@@ -154,7 +154,8 @@ pathed_more circuit cycle paths constraint path as_many = absurd (omega arith)
 
 -- one more constraint and its path
 pub pathed_next : {circuit : Circuit} {scale : Scale} {place : ℕ} {old between new : Left}
-    (middle : Left) (pathed pathed' : List Constraint × List (List ℕ)) (constraint : Constraint) (path : List ℕ)
+    (middle : Left) (pathed pathed' : List Constraint × List (List ℕ)) (constraint : Constraint)
+    (path : List ℕ)
     → HasPathed circuit scale place old between pathed → DenotesLine circuit scale form.Constraint
     (DenotesConstraint circuit) between middle constraint
     → DenotesLine circuit scale form.Path (DenotesPath circuit)

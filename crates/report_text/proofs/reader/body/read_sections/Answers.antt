@@ -75,7 +75,8 @@ pub returns-in_err-merged-clause-fault : goal.returns-in_err-merged-clause-fault
 returns-in_err-merged-clause-fault c =
     let count = c.args.count in
     let leads = read_more (counted_read c.in_ok-timings.ensures.ok)
-    (lead_forms c.args.version count) _ _ (rw c.leads_in.ensures.value at c.in_ok-leads.ensures.ok).read in
+    (lead_forms c.args.version count) _ _
+    (rw c.leads_in.ensures.value at c.in_ok-leads.ensures.ok).read in
     passed_on _ _ _ c.from_residual-in_err-merged.ensures.1 (stops_within
     (forms_after c.args.version count) (register_forms count ++ lead_forms c.args.version count)
     (merge_forms count) (form.Source ∷ node_forms count ++ form.Total ∷ [])
