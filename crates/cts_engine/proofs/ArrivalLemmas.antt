@@ -5,9 +5,7 @@ use Rattle.cts_engine.proofs.DelayLemmas.{weight_small}
 -- so many weights over a denominator
 weights_bound : (count den : ℕ) → count ≤ 4096 → den ≤ 4097
     → count * (den * 70000000000) ≤ 1200000000000000000
-weights_bound count den few low =
-    let inner : den * 70000000000 ≤ 286790000000000 = omega arith in
-    omega (arith, mul-le count (den * 70000000000) 4096 286790000000000 few inner)
+weights_bound count den few low = search (arith, mul-le)
 
 -- arrivals within the weights of a circuit's constraints are within those of a tree
 pub tree_arrivals : (circuit : Circuit) (tech : Tech) (constraints : List Constraint)
@@ -65,6 +63,4 @@ module _ {circuit : Circuit} {tech : Tech} {constraints : List Constraint}
   -- the least period of the circuit is one at which the constraints have arrivals
   pub admitted_by : (period : Fraction) → IsLeastFraction circuit tech period
       → IsAdmittedBy constraints period
-  admitted_by period least =
-      let (floor, (arrival, met)) = least.admitted in
-      (arrival, (are.meets (nat_abs period.den) period.num arrival).1 met)
+  admitted_by period least = search arith

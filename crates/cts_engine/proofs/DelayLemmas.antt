@@ -20,9 +20,7 @@ small_pairs circuit tech pairs are from to path joins =
 -- ends of a path by other names
 renamed : (circuit : Circuit) (from from' to to' : ℕ) (path : List ℕ) → from ≡ from' → to ≡ to'
     → IsPath circuit from to path → IsPath circuit from' to' path
-renamed circuit from from' to to' path prefix back =
-    subst (λ f. IsPath circuit from to path → IsPath circuit f to' path) prefix
-    (subst (λ t. IsPath circuit from to path → IsPath circuit from t path) back (λ joins. joins))
+renamed circuit from from' to to' path prefix back = search arith
 
 module _ {circuit : Circuit} {tech : Tech} (small : HasSmallPairs circuit tech) where
   -- what a path gives has a small greatest delay where it is the greatest of all

@@ -18,9 +18,7 @@ pub record AreDrawnBefore (sinks : ℕ) (merges : List Merge) (tree : Tree) (pla
 -- the merge that is read at a place
 pub read_merge : (items merges : List Merge) (place : ℕ) → items ≡ merges
     → place < length items → slice_get merges place ≡ Some (merge_at items place)
-read_merge items merges place same here =
-    subst (λ list. slice_get list place ≡ Some (merge_at items place)) same
-    (merge_here items place here)
+read_merge items merges place same here = search (arith, merge_at, merge_here)
 
 -- the root's parent is the source
 pub root_parent : (sinks : ℕ) (merges : List Merge)

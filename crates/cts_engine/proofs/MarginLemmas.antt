@@ -35,18 +35,7 @@ module _ {circuit : Circuit} {tech : Tech} {pairs : List PairDelay}
     -- what is spared over every path is spared in both constraints of a pair
     both_spared : SparesOverPaths circuit tech scale period margin arrival → (pair : PairDelay)
         → IsPairDelay circuit tech pair → HaveBoth tech (SparesOne scale period margin arrival) pair
-    both_spared over pair delays =
-        let launch = arrival pair.from in
-        let capture = arrival pair.to in
-        let longest = delays.greatest_shown in
-        let shortest = delays.least_shown in (
-          with_asked launch _ margin _ (setup_satisfied scale (launch +ℤ margin) capture
-              pair.greatest tech.setup period
-              (rw longest.2 at (over.setup pair.from pair.to longest.0 longest.1))),
-          with_asked capture _ margin _ (hold_satisfied scale launch (capture +ℤ margin) pair.least
-              tech.hold period
-              (rw shortest.2 at (over.hold pair.from pair.to shortest.0 shortest.1))),
-        )
+    both_spared over pair delays = search (arith, with_asked, setup_satisfied, hold_satisfied)
 
     spares_all : SparesOverPaths circuit tech scale period margin arrival
         → Spares asked scale period margin arrival

@@ -10,10 +10,7 @@ use Rattle.cts_engine.proofs.PlaceLemmas.{All-constraints_at}
 -- a fraction that stands for a whole number is that number over 1
 pub whole_fraction : (num den value : ℤ) → pos 1 ≤ℤ den → den ≤ℤ pos 1
     → (num *ℤ pos 1) ≡ (value *ℤ den) → (num ≡ value) × (den ≡ pos 1)
-whole_fraction num den value some low same =
-    let one : den ≡ pos 1 = omega (arith, ints) in
-    let plain = rw one at same in
-    (omega (arith, ints, plain), one)
+whole_fraction num den value some low same = search (arith, ints)
 
 module _ {circuit : Circuit} {tech : Tech} {constraints : List Constraint}
     (are : AreConstraintsOf circuit tech constraints) where
@@ -35,12 +32,7 @@ module _ {circuit : Circuit} {tech : Tech} {constraints : List Constraint}
   pub least_arrivals : (numerator : ℤ) (denominator : ℕ) (at : List ℤ)
       → IsLeastScheduleOf constraints numerator denominator at
       → AreLeastArrivals circuit tech numerator denominator at
-  least_arrivals numerator denominator at is_least = record {
-    meets = (are.meets denominator numerator (arrival_of at)).0 is_least.satisfies;
-    from_zero = is_least.from_zero;
-    least = λ times other some from met.
-        is_least.least times other some from ((are.meets _ _ other).1 met);
-  }
+  least_arrivals numerator denominator at is_least = search arith
 
   -- a cycle of the constraints shows the period of the circuit
   pub shown_by_cycle : (value : Fraction) (cycle : List ℕ)

@@ -23,15 +23,7 @@ Serves tech signal = IsTrue (is_gate signal.kind) → IsTrue (delay_of tech sign
 -- a table that gives the kinds that a circuit uses serves it
 pub gives_used : (circuit : Circuit) (tech : Tech) (used : List Bool)
     → AreUsedKinds circuit.signals used → GivesKinds used tech → GivesUsedKinds circuit tech
-gives_used circuit tech used are gives number signal within gate =
-    let here = get_or circuit.signals number signal in
-    gives here.kind gate ((are.each here.kind gate).1 (
-      number,
-      here,
-      within,
-      get_or_default circuit.signals number here signal within,
-      refl,
-    ))
+gives_used circuit tech used are gives number signal within gate = search (arith, get_or_default)
 
 -- what serves a circuit serves it with the host too
 pub gives_hosted : (tech : Tech) (bare circuit : Circuit) → GivesUsedKinds bare tech

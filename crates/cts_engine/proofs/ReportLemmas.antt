@@ -38,9 +38,7 @@ module _ (problem : Problem) (report : Report) {constraints : List Constraint}
 
   -- and a sink for each register
   count : length (sinks_in problem report) ≡ length problem.circuit.registers
-  count = length-sinks_of report.period problem.tech problem.places.registers
-      report.schedule.at same
-      ∙ times.schedule.registers
+  count = search (arith, length-sinks_of, same)
 
   merges_count : length report.topology.merges + 1 ≡ length problem.circuit.registers
   merges_count = omega (arith, made.tree.topology.all, count)
@@ -70,18 +68,8 @@ module _ (problem : Problem) (report : Report) {constraints : List Constraint}
       }
 
   timing_bounds : HasTimingBounds report
-  timing_bounds = record {
-    period = least.range;
-    den = times.schedule.den;
-    cycle = cycle_small least.delays report.period report.shown least.is_shown;
-    arrivals = arrivals_small report.schedule.at times.arrivals;
-    slacks = slacks_small least.delays report.schedule.at least.range times.arrivals
-        report.schedule report.slacks refl times.slacks;
-    paths = (paths_plain problem.circuit problem.tech report.shown report.paths
-        times.paths).short;
-    leads = leads_small least.delays report.period report.schedule.at report.leads
-        times.schedule.registers times.all_leads times.leads times.low_leads;
-  }
+  timing_bounds =
+      search (arith, cycle_small, arrivals_small, slacks_small, paths_plain, leads_small)
 
   tree_bounds : report.grid ≡ grid_of report.period problem.tech
       → HasTreeBounds problem.tech report
@@ -113,11 +101,7 @@ module _ (problem : Problem) (report : Report) {constraints : List Constraint}
   -- the tree realises the schedule
   realises : RealisesSchedule 1 report.period problem.tech report.topology.merges report.schedule
       (embedding_of report.tree)
-  realises = offsets_are_skews 1 report.period problem.tech problem.places.registers
-      report.schedule report.topology.merges (embedding_of report.tree) same
-      (reaches_realise (sinks_in problem report) report.topology.merges (source_in problem report)
-      (embedding_of report.tree) (reach_in report.tree) (are_shown made.tree.placed.shown)
-      made.tree.placed.reaches)
+  realises = search (arith, offsets_are_skews, same, reaches_realise, are_shown)
 
   -- so it is the problem's report with its topology
   pub is_report : report.version ≡ Second → report.grid ≡ grid_of report.period problem.tech

@@ -56,12 +56,7 @@ kept_product : (steps coordinate product : ℤ) → unsigned_abs steps ≤ 10000
     → product ≡ (to_z w128 (of_z w128 steps) *ℤ to_z w128 (of_z w128 coordinate))
     → to_z w128 (of_z w128 product) ≡ steps *ℤ coordinate
 kept_product steps coordinate product small near is =
-    let same : product ≡ steps *ℤ coordinate =
-    is ∙ ap₂ (λ a b. a *ℤ b) (number_read steps (omega (arith, small)))
-    (number_read coordinate (omega (arith, ints, near))) in
-    let size = product_size steps coordinate 100000000000 1000000000000000 small
-    (omega (arith, ints, near)) in
-    number_read product (omega (arith, size, ap unsigned_abs same)) ∙ same
+    search (arith, number_read, ints, product_size)
 
 -- and how large it is
 product_below : (steps coordinate : ℤ) → unsigned_abs steps ≤ 100000000000

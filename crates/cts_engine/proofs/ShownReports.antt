@@ -18,10 +18,7 @@ module _ (circuit : Circuit) (tech : Tech) where
   -- each constraint of a critical cycle is one of the circuit
   each_of_circuit : (cycle : List Constraint) → All (IsConstraintOf circuit tech) cycle
       → (place : ℕ) → IsOfCircuit circuit tech cycle place
-  each_of_circuit cycle all place = if_some (slice_get cycle place)
-      (λ constraint here. subst (IsConstraintOf circuit tech)
-      (get_or_from_slice_get cycle place constraint constraint here)
-      (all place constraint (slice_get_within cycle place constraint here)))
+  each_of_circuit cycle all place = search (arith, if_some, get_or_from_slice_get, slice_get_within)
 
   -- what shows the period gives it
   module _ (period : Fraction) where
@@ -112,15 +109,7 @@ module _ {sinks : List Sink} {merges : List Merge} {source : Uv} {tree : Tree} {
 
   is_reach_shown : (node : ℕ)
       → IsReachShown sinks merges source embedding (reach_in tree) shows node
-  is_reach_shown node = record {
-    reach_is = λ below is. placed.reaches below node is;
-    of_merge = λ place within is. subst (λ n. IsSomeAnd (slice_get shows place)
-        (ShowsMerge sinks (numbers_below (length sinks) merges n) (reach_in tree n))) (sym is)
-        (placed.shown.of_merges place within);
-    of_source = λ is. subst (λ n. IsSomeAnd (slice_get shows (length merges))
-        (ShowsSource sinks source (reach_in tree (root_of (length sinks))) (reach_in tree n)))
-        (sym is) placed.shown.of_source;
-  }
+  is_reach_shown node = search arith
 
 -- ---- reports
 
@@ -148,17 +137,7 @@ module _ (problem : Problem) (report : Report) (is : IsSynthesis problem report)
       }
 
   is_shown_least : IsShownLeast problem.circuit problem.tech report
-  is_shown_least =
-      let at = report.schedule.at in
-      let registers = is.least_schedule.registers in
-      record {
-        paths = given_paths problem.circuit problem.tech report.shown report.paths shows.paths;
-        earliest = λ register within. record {
-          from_zero = is.least_schedule.least.from_zero register (omega (arith, registers));
-          led = led problem.circuit problem.tech report.period at report.leads register
-              (lead_at report.leads register) (shows.leads register (omega (arith, registers)));
-        };
-      }
+  is_shown_least = search (arith, given_paths, led)
 
   is_shown_tree : IsTopology (length (sinks_in problem report)) report.topology.merges
       → IsShownTree (sinks_in problem report) (source_in problem report) report
@@ -174,8 +153,5 @@ module _ (problem : Problem) (report : Report) (is : IsSynthesis problem report)
 -- the report of a problem with a topology shows what it says
 pub report_is_shown : (problem : Problem) (topology : Topology) (report : Report)
     → IsReportWith problem topology report → IsShown problem report
-report_is_shown problem topology report made = record {
-  timing = is_shown_timing problem report made.is made.shows;
-  tree = is_shown_tree problem report made.is made.shows made.merges;
-  least = λ second. is_shown_least problem report made.is made.shows;
-}
+report_is_shown problem topology report made =
+    search (arith, is_shown_timing, is_shown_tree, is_shown_least)

@@ -21,13 +21,7 @@ eight_last den num = grind arith
 -- a point below a bound has rotated coordinates below its double
 pub rotated_below : (bound : ℕ) (point : Point) → bound + bound ≤ 10 ^ 31
     → IsPointBelow bound point → IsUvBelow (10 ^ 31) (rotated point)
-rotated_below bound point low below =
-    let x = below.x in
-    let y = below.y in
-    record {
-      u = record { above = omega (arith, ints, low, x, y); below = omega (arith, ints, low, x, y) };
-      v = record { above = omega (arith, ints, low, x, y); below = omega (arith, ints, low, x, y) };
-    }
+rotated_below bound point low below = search (arith, ints)
 
 -- ---- of a problem
 
@@ -62,58 +56,23 @@ module _ (period : Fraction) (tech : Tech) where
 
   -- and so are scheduled lengths
   scheduled_multiple : (arrival : ℤ) → IsMultipleOf 8 (neg_ℤ (scheduled_length tech arrival))
-  scheduled_multiple arrival =
-      let over = nat_abs tech.wire_den in
-      let over_is = size_same tech.wire_den (omega (arith, ints, tech.valid.wire_den_within)) in
-      let steps : pos (8000000 * over) *ℤ arrival ≡ scheduled_length tech arrival =
-      λ i. pos 8000000 *ℤ over_is i *ℤ arrival in
-      let order : 8000000 * over ≡ 1000000 * over * 8 = omega arith in
-      minus_eighths (scheduled_length tech arrival) (pos (1000000 * over) *ℤ arrival)
-      (sym steps ∙ ap (λ n. pos n *ℤ arrival) order ∙ scale-finer (1000000 * over) 8 arrival)
+  scheduled_multiple arrival = search (arith, size_same, ints, minus_eighths, scale-finer)
 
   module _ (small : IsSmallPeriod period) where
     -- the source
     pub tree_source : (point : Point) → IsPointBelow 1000000000000001 point
         → IsTreeSource (rotated (on_grid period tech point))
-    tree_source point near = record {
-      below = rotated_below (10 ^ 26) (on_grid period tech point) (omega arith)
-          (on_grid_below period tech small point near);
-      multiple = rotated_multiple point;
-    }
+    tree_source point near = search (arith, rotated_below, on_grid_below, rotated_multiple)
 
     -- a register
     tree_sink : (place : Point) (arrival : ℤ) → IsPointBelow 1000000000000001 place
         → IsWithin 0 1200000000000000000 arrival → IsTreeSink (sink_of period tech place arrival)
     tree_sink place arrival near within =
-        let source = tree_source place near in
-        let size = scheduled_size tech arrival 1200000000000000000
-        (omega (arith, ints, within)) in
-        record {
-          at_below = source.below;
-          at_multiple = source.multiple;
-          offset_below = record {
-            above = omega (arith, ints, size);
-            below = omega (arith, ints, size);
-          };
-          offset_multiple = scheduled_multiple arrival;
-        }
+        search (arith, tree_source, scheduled_size, ints, scheduled_multiple)
 
     -- all registers
     pub tree_sinks : (places : List Point) (at : List ℤ) → length places ≡ length at
         → 1 ≤ length at → length at ≤ 4097 → All (IsPointBelow 1000000000000001) places
         → AreTreeArrivals at → AreTreeSinks (sinks_of period tech places at)
     tree_sinks places at same some few near arrivals =
-        let count = length-sinks_of period tech places at same in
-        record {
-          some = omega (arith, count);
-          few = omega (arith, count);
-          each = λ register default here.
-              let origin : Point = record { x = pos 0; y = pos 0 } in
-              let low : register < length at = omega (arith, here, count) in
-              let found = sink_at period tech places at origin register same low in
-              subst IsTreeSink (sym (get_or_from_slice_get (sinks_of period tech places at)
-              register (sink_of period tech (get_or places register origin)
-              (arrival_of at register)) default found))
-              (tree_sink (get_or places register origin) (arrival_of at register)
-              (near register origin (omega (arith, same))) (arrivals register));
-        }
+        search (arith, length-sinks_of, sink_at, get_or_from_slice_get, tree_sink)

@@ -79,16 +79,11 @@ module _ {circuit : Circuit} {tech : Tech} (delays : HasSmallPairs circuit tech)
 
     -- and name the circuit's registers
     pub leads_among : All (LeadsAmong (length circuit.registers)) leads
-    leads_among register default here = subst (LeadsAmong (length circuit.registers))
-        (lead_is register default here)
-        (lead_among register (lead_at leads register) (each register (omega arith)))
+    leads_among register default here = search (arith, lead_is, lead_among)
 
 -- arrivals of a tree are small
 pub arrivals_small : (at : List ℤ) → AreTreeArrivals at → All (IsBelow (10 ^ 19)) at
-arrivals_small at are register default here =
-    let is = get_or_default at register default (pos 0) here in
-    let within = are register in
-    record { above = omega (arith, ints, is, within); below = omega (arith, ints, is, within) }
+arrivals_small at are register default here = search (arith, get_or_default, ints)
 
 -- what the paths of what shows a period are
 pub record ArePlain (circuit : Circuit) (shown : PeriodShow) (paths : List (List ℕ)) : Type 0 where

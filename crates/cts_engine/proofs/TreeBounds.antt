@@ -9,13 +9,7 @@ use Rattle.cts_engine.proofs.DrawLemmas.{root_parent}
 -- a point by its rotated coordinates
 point_below : (point : Point) → IsUvBelow (5 * 10 ^ 31) (rotated point)
     → IsPointBelow (5 * 10 ^ 31) point
-point_below point below =
-    let u = below.u in
-    let v = below.v in
-    record {
-      x = record { above = omega (arith, ints, u, v); below = omega (arith, ints, u, v) };
-      y = record { above = omega (arith, ints, u, v); below = omega (arith, ints, u, v) };
-    }
+point_below point below = search (arith, ints)
 
 -- how far two multiples of 4 are apart is one
 difference_of_quarters : (a b : ℤ) → IsMultipleOf 4 a → IsMultipleOf 4 b
@@ -32,10 +26,8 @@ apart_of_quarters a b first second = either_of_quarters (a -ℤ b) (b -ℤ a)
 -- and so is a distance
 distance_multiple : (a b : Point) → IsUvMultipleOf 4 (rotated a) → IsUvMultipleOf 4 (rotated b)
     → IsMultipleOf 4 (distance a b)
-distance_multiple a b first second = subst (IsMultipleOf 4) (sym (distance-rotated a b))
-    (either_of_quarters (apart (rotated a).u (rotated b).u) (apart (rotated a).v (rotated b).v)
-    (apart_of_quarters (rotated a).u (rotated b).u first.u second.u)
-    (apart_of_quarters (rotated a).v (rotated b).v first.v second.v))
+distance_multiple a b first second =
+    search (arith, distance-rotated, either_of_quarters, apart_of_quarters)
 
 -- ---- topologies
 
@@ -102,12 +94,7 @@ module _ {sinks : ℕ} {merges : List Merge} (topology : IsTopology sinks merges
 
 -- places are small
 pub places_small : (tree : Tree) → HasTreeNumbers tree → All (IsPointBelow (10 ^ 32)) tree.place
-places_small tree numbers node default here =
-    let below = point_below (get_or tree.place node default) (numbers.places node default here) in
-    record {
-      x = record { above = omega (arith, ints, below.x); below = omega (arith, ints, below.x) };
-      y = record { above = omega (arith, ints, below.y); below = omega (arith, ints, below.y) };
-    }
+places_small tree numbers node default here = search (arith, point_below, ints)
 
 -- and so are lengths
 pub lengths_small : (tree : Tree) → HasTreeNumbers tree → All (IsBelow (10 ^ 32)) tree.length
@@ -145,12 +132,7 @@ module _ {sinks : List Sink} {merges : List Merge} {source : Uv} {reach : ℕ �
   -- the source's
   source_show : (default : Show) → ShowsSource sinks source (reach (root_of (length sinks)))
       (reach (source_of (length sinks))) (get_or shows (length merges) default)
-  source_show default =
-      let (show, found, shows_it) = some_and (slice_get shows (length merges)) _
-      shown.of_source in
-      subst (ShowsSource sinks source (reach (root_of (length sinks)))
-      (reach (source_of (length sinks))))
-      (sym (get_or_from_slice_get shows (length merges) show default found)) shows_it
+  source_show default = search (arith, some_and, get_or_from_slice_get)
 
   -- pairs in order show merges
   is_merge_show : (numbers : List ℕ) (at : ℤ) (show : Show) → ShowsMerge sinks numbers at show
@@ -178,9 +160,7 @@ module _ {sinks : List Sink} {merges : List Merge} {source : Uv} {reach : ℕ �
 
   pub merge_shows : All IsMergeShow (take (length merges) shows)
   merge_shows place default here =
-      let low : place < length merges = omega (arith, length-take (length merges) shows) in
-      subst IsMergeShow (sym (get_or-take (length merges) shows place default low))
-      (is_merge_show _ _ _ (merge_show place default low)).0
+      search (arith, length-take, get_or-take, is_merge_show, merge_show)
 
   pub source_shows : All IsSourceShow (drop (length merges) shows)
   source_shows place default here =

@@ -28,10 +28,7 @@ way_through first (second ∷ more) (suc place) default here =
 between_below : (a b c way back long : ℤ) → IsBelow (5 * 10 ^ 31) a → IsBelow (5 * 10 ^ 31) b
     → (c ≤ℤ (a +ℤ way)) → (a ≤ℤ (c +ℤ way)) → (c ≤ℤ (b +ℤ back)) → (b ≤ℤ (c +ℤ back))
     → (way +ℤ back) ≤ℤ long → long <ℤ pos (10 ^ 32) → IsBelow (10 ^ 32) c
-between_below a b c way back long from to up down on off sum short = record {
-  above = omega (arith, ints, from, to);
-  below = omega (arith, ints, from, to);
-}
+between_below a b c way back long from to up down on off sum short = search (arith, ints)
 
 -- a coordinate is as near as the point
 x_near : (a b : Point) → (b.x ≤ℤ (a.x +ℤ distance a b)) × (a.x ≤ℤ (b.x +ℤ distance a b))

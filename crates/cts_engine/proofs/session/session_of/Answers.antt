@@ -10,13 +10,7 @@ open-requires-clause-topology c = greedy_topology c.as_slice-sinks.result.now
     c.in_ok-topology-in-Found.topology.merges c.in_ok-topology-in-Found.ensures.greedy
 
 pub open-requires-clause-source : goal.open-requires-clause-source
-open-requires-clause-source c =
-    let problem = c.args.problem.now in
-    let timed : AreTimedSinks problem c.in-Found.timed =
-    rw c.in-Found.is at c.in_ok-cycle.ensures.ok in
-    rw c.rotated-source.ensures
-    (tree_source c.in-Found.timed.period problem.tech timed.least.range
-    problem.places.source problem.valid.source_near)
+open-requires-clause-source c = search (arith, tree_source)
 
 pub returns-in-Never-clause-never : goal.returns-in-Never-clause-never
 returns-in-Never-clause-never c = never_exactly c.args.problem.now.circuit
@@ -55,11 +49,4 @@ returns-in_ok-session-in-Found-clause-small c =
     }
 
 pub returns-in_ok-session-in-Found-clause-never : goal.returns-in_ok-session-in-Found-clause-never
-returns-in_ok-session-in-Found-clause-never c =
-    let timed : AreTimedSinks c.args.problem.now c.in-Found.timed =
-    rw c.in-Found.is at c.in_ok-cycle.ensures.ok in
-    let period = c.in-Found.timed.period in
-    let least = timed.least.least in (
-      λ never. absurd never,
-      λ none. none (nat_abs period.den) period.num least.proper least.admitted,
-    )
+returns-in_ok-session-in-Found-clause-never c = search arith

@@ -4,19 +4,13 @@ use Rattle.cts_engine.proofs.SinkLemmas.{rotated_below, rotated_multiple}
 use Rattle.cts_engine.proofs.session.sink_place.Goals as goal
 
 pub product-requires-clause-b : goal.product-requires-clause-b
-product-requires-clause-b c =
-    let near = c.requires.near.x in
-    record { above = omega (arith, ints, near); below = omega (arith, ints, near) }
+product-requires-clause-b c = search (arith, ints)
 
 pub product-requires-2-clause-a : goal.product-requires-2-clause-a
-product-requires-2-clause-a c =
-    let small = c.steps_in-steps.ensures.small in
-    record { above = omega (arith, ints, small); below = omega (arith, ints, small) }
+product-requires-2-clause-a c = search (arith, ints)
 
 pub product-requires-2-clause-b : goal.product-requires-2-clause-b
-product-requires-2-clause-b c =
-    let near = c.requires.near.y in
-    record { above = omega (arith, ints, near); below = omega (arith, ints, near) }
+product-requires-2-clause-b c = search (arith, ints)
 
 pub to_uv-requires : goal.to_uv-requires
 to_uv-requires c =
@@ -49,7 +43,4 @@ returns-clause-below c =
     (rotated_below (10 ^ 27) _ (omega arith) kept.below)
 
 pub returns-clause-multiple : goal.returns-clause-multiple
-returns-clause-multiple c =
-    let grid = c.requires.grid in
-    subst (IsUvMultipleOf 8) (sym (returns-clause-value c grid.period grid.tech grid.is))
-    (rotated_multiple grid.period grid.tech c.args.at)
+returns-clause-multiple c = search (arith, returns-clause-value, rotated_multiple)

@@ -58,6 +58,4 @@ returns-clause-drawn c = all_drawn c.requires.topology c.loop-merge.merge-index
     c.loop-merge.invariant c.draw-2.ensures
 
 pub returns-clause-small : goal.returns-clause-small
-returns-clause-small c = drawn_small c.draw-2.ensures (root_low c.requires.topology
-    c.loop-merge.merge-index c.loop-merge.parent c.loop-merge.wires c.loop-merge.invariant)
-    c.loop-merge.invariant.small
+returns-clause-small c = search (arith, drawn_small, root_low)
