@@ -68,8 +68,18 @@ module _ (problem : Problem) (report : Report) {constraints : List Constraint}
       }
 
   timing_bounds : HasTimingBounds report
-  timing_bounds =
-      search (arith, cycle_small, arrivals_small, slacks_small, paths_plain, leads_small)
+  timing_bounds = record {
+    period = least.range;
+    den = times.schedule.den;
+    cycle = cycle_small least.delays report.period report.shown least.is_shown;
+    arrivals = arrivals_small report.schedule.at times.arrivals;
+    slacks = slacks_small least.delays report.schedule.at least.range times.arrivals
+        report.schedule report.slacks refl times.slacks;
+    paths = (paths_plain problem.circuit problem.tech report.shown report.paths
+        times.paths).short;
+    leads = leads_small least.delays report.period report.schedule.at report.leads
+        times.schedule.registers times.all_leads times.leads times.low_leads;
+  }
 
   tree_bounds : report.grid ≡ grid_of report.period problem.tech
       → HasTreeBounds problem.tech report

@@ -62,17 +62,45 @@ module _ (period : Fraction) (tech : Tech) where
     -- the source
     pub tree_source : (point : Point) → IsPointBelow 1000000000000001 point
         → IsTreeSource (rotated (on_grid period tech point))
-    tree_source point near = search (arith, rotated_below, on_grid_below, rotated_multiple)
+    tree_source point near = record {
+      below = rotated_below (10 ^ 26) (on_grid period tech point) (omega arith)
+          (on_grid_below period tech small point near);
+      multiple = rotated_multiple point;
+    }
 
     -- a register
     tree_sink : (place : Point) (arrival : ℤ) → IsPointBelow 1000000000000001 place
         → IsWithin 0 1200000000000000000 arrival → IsTreeSink (sink_of period tech place arrival)
     tree_sink place arrival near within =
-        search (arith, tree_source, scheduled_size, ints, scheduled_multiple)
+        let source = tree_source place near in
+        let size = scheduled_size tech arrival 1200000000000000000
+        (omega (arith, ints, within)) in
+        record {
+          at_below = source.below;
+          at_multiple = source.multiple;
+          offset_below = record {
+            above = omega (arith, ints, size);
+            below = omega (arith, ints, size);
+          };
+          offset_multiple = scheduled_multiple arrival;
+        }
 
     -- all registers
     pub tree_sinks : (places : List Point) (at : List ℤ) → length places ≡ length at
         → 1 ≤ length at → length at ≤ 4097 → All (IsPointBelow 1000000000000001) places
         → AreTreeArrivals at → AreTreeSinks (sinks_of period tech places at)
     tree_sinks places at same some few near arrivals =
-        search (arith, length-sinks_of, sink_at, get_or_from_slice_get, tree_sink)
+        let count = length-sinks_of period tech places at same in
+        record {
+          some = omega (arith, count);
+          few = omega (arith, count);
+          each = λ register default here.
+              let origin : Point = record { x = pos 0; y = pos 0 } in
+              let low : register < length at = omega (arith, here, count) in
+              let found = sink_at period tech places at origin register same low in
+              subst IsTreeSink (sym (get_or_from_slice_get (sinks_of period tech places at)
+              register (sink_of period tech (get_or places register origin)
+              (arrival_of at register)) default found))
+              (tree_sink (get_or places register origin) (arrival_of at register)
+              (near register origin (omega (arith, same))) (arrivals register));
+        }

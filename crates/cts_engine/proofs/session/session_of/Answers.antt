@@ -10,7 +10,13 @@ open-requires-clause-topology c = greedy_topology c.as_slice-sinks.result.now
     c.in_ok-topology-in-Found.topology.merges c.in_ok-topology-in-Found.ensures.greedy
 
 pub open-requires-clause-source : goal.open-requires-clause-source
-open-requires-clause-source c = search (arith, tree_source)
+open-requires-clause-source c =
+    let problem = c.args.problem.now in
+    let timed : AreTimedSinks problem c.in-Found.timed =
+    rw c.in-Found.is at c.in_ok-cycle.ensures.ok in
+    rw c.rotated-source.ensures
+    (tree_source c.in-Found.timed.period problem.tech timed.least.range
+    problem.places.source problem.valid.source_near)
 
 pub returns-in-Never-clause-never : goal.returns-in-Never-clause-never
 returns-in-Never-clause-never c = never_exactly c.args.problem.now.circuit

@@ -43,4 +43,7 @@ returns-clause-below c =
     (rotated_below (10 ^ 27) _ (omega arith) kept.below)
 
 pub returns-clause-multiple : goal.returns-clause-multiple
-returns-clause-multiple c = search (arith, returns-clause-value, rotated_multiple)
+returns-clause-multiple c =
+    let grid = c.requires.grid in
+    subst (IsUvMultipleOf 8) (sym (returns-clause-value c grid.period grid.tech grid.is))
+    (rotated_multiple grid.period grid.tech c.args.at)
