@@ -1,6 +1,6 @@
 -- What two pieces of a wire have in common, by their coordinates.
-use Rattle.cert_check.proofs.Vocabulary.{◌≡◌, ℕ, ◌<◌, ℤ, pos, ◌*ℤ◌, ◌≤ℤ◌, ◌<ℤ◌, inl, inr, sym, ap, ◌∙◌, arith, ints, clamps, by_lt_z, Point, IsBetween, AreApart, Share, greatest_common, least_common, piece}
-use Rattle.std.specs.Int.{int_max, int_min}
+use Rattle.cert_check.proofs.Vocabulary.{◌≡◌, ℕ, ◌<◌, ℤ, pos, ◌*ℤ◌, ◌≤ℤ◌, ◌<ℤ◌, inl, inr, ap, ◌∙◌, arith, ints, clamps, by_lt_z, Point, IsBetween, AreApart, Share, greatest_common, least_common, piece}
+use Rattle.std.specs.Int.{int_min}
 use Rattle.cts_model.proofs.ScaleLemmas.{scale_le, scale_lt, scale-max}
 
 -- the lesser of two numbers is the one or the other

@@ -1,5 +1,5 @@
 -- The first of some places where something doesn't hold.
-use Rattle.cert_check.proofs.Vocabulary.{◌≡◌, ◌<◌, ◌↔◌, ◌+◌, ℕ, Bool, false, IsTrue, inl, inr, sym, ◌∙◌, subst, arith, List, ◌∷◌, All, length, get_or, drop, add-one, drop-cons, Some, cases_lt, false≢true, get_or_from_slice_get, slice_get_within, IsErrAnd, Result, Ok, Err, slice_get, AtEach, Reason, Stop, At, NoMemory, FailsFirst, Judges}
+use Rattle.cert_check.proofs.Vocabulary.{◌≡◌, ◌<◌, ◌↔◌, ◌+◌, ℕ, Bool, false, IsTrue, sym, ◌∙◌, subst, arith, List, ◌∷◌, All, length, get_or, drop, add-one, drop-cons, Some, cases_lt, false≢true, get_or_from_slice_get, slice_get_within, IsErrAnd, Result, Ok, Err, slice_get, AtEach, Reason, Stop, At, NoMemory, FailsFirst, Judges}
 
 -- what a test denies doesn't hold
 pub denied : (Holds : Type 0) (test : Bool) → IsTrue test ↔ Holds → test ≡ false → Holds → ⊥

@@ -1,5 +1,5 @@
 -- Numbers that fit are kept as they are.
-use Rattle.cert_check.proofs.Vocabulary.{◌≡◌, ◌^◌, ℤ, ◌+ℤ◌, FitsSigned, of_z, to_z, arith, w128, ints, to_z-of_z, IsBelow}
+use Rattle.cert_check.proofs.Vocabulary.{◌≡◌, ◌^◌, ℤ, ◌+ℤ◌, of_z, to_z, arith, w128, ints, to_z-of_z, IsBelow}
 use Rattle.cts_model.specs.table.Tables.{IsWithin}
 
 -- a number as the code keeps it

@@ -1,5 +1,5 @@
 -- Shows and sinks as they are read from lists.
-use Rattle.cert_check.proofs.Vocabulary.{◌≡◌, ◌↔◌, ◌<◌, ◌≤◌, ◌^◌, ℕ, ℤ, pos, ◌+ℤ◌, Bool, IsTrue, List, length, get_or, to_z, of_z, sym, ap, subst, ◌∙◌, arith, w128, IsSomeAnd, slice_get, ints, to_z-of_z, slice_get-get_or, Sink, Uv, IsBelow, span, ShowsSource}
+use Rattle.cert_check.proofs.Vocabulary.{◌≡◌, ◌↔◌, ◌<◌, ◌≤◌, ◌^◌, ℕ, ℤ, pos, ◌+ℤ◌, Bool, IsTrue, List, length, get_or, to_z, of_z, subst, ◌∙◌, arith, w128, IsSomeAnd, slice_get, ints, to_z-of_z, slice_get-get_or, Sink, Uv, IsBelow, span, ShowsSource}
 use Rattle.std.specs.List.{All}
 use Rattle.cts_model.specs.declared.tree.Show.{Show}
 

@@ -1,5 +1,5 @@
 -- The combined list of small constraints.
-use Rattle.corners.proofs.Vocabulary.{◌<◌, ◌≤◌, ◌≡◌, ℕ, List, [], length, get_or, arith, All, get_or_default, Constraint, AreSmallConstraints, no_constraint, list_of, IsCombinedAt}
+use Rattle.corners.proofs.Vocabulary.{◌<◌, ◌≤◌, ◌≡◌, ℕ, List, length, arith, All, get_or_default, Constraint, AreSmallConstraints, IsCombinedAt}
 
 -- the combined list is of small constraints where each corner's is
 pub small_of_each : (registers : ℕ) (lists : List (List Constraint))

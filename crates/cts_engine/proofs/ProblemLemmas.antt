@@ -1,7 +1,7 @@
 -- What the texts of a problem tell keeps to what a problem is: its delays serve its circuit, which
 -- has the host where the table gives it a place, and its registers have places that aren't far
 -- away.
-use Rattle.cts_engine.proofs.Vocabulary.{◌≡◌, ◌≢◌, ◌≤◌, ◌^◌, ◌+◌, ◌==◌, ◌↔◌, ℕ, ℤ, pos, negsuc, Bool, true, false, IsTrue, List, [], ◌∷◌, length, map, ◌++◌, cond, Option, Some, None, Result, Ok, Err, get_or, refl, sym, ap, ◌∙◌, subst, true≢false, arith, Decides-eqb, ints, get_or_default, length-map, All-append, All-cons, All-nil, option_map, option_to_list, Circuit, Places, Point, Signal, Tech, GivesKinds, has_host, host_signal, delay_of, HasNoHost, IsWithHost, is_gate, IsLoop, IsBelow, IsPointBelow, GivesUsedKinds, IsProblem, AreUsedKinds, AcceptsPlacement, place_by, place_of, places_after, register_nodes, IsHostedBy}
+use Rattle.cts_engine.proofs.Vocabulary.{◌≡◌, ◌≢◌, ◌≤◌, ◌^◌, ◌==◌, ◌↔◌, ℕ, ℤ, pos, negsuc, Bool, true, false, IsTrue, List, [], ◌∷◌, length, map, ◌++◌, cond, Option, Some, None, Result, Ok, Err, refl, sym, ap, ◌∙◌, subst, true≢false, arith, Decides-eqb, ints, get_or_default, length-map, All-append, All-cons, All-nil, option_map, option_to_list, Circuit, Places, Point, Signal, Tech, GivesKinds, has_host, host_signal, delay_of, HasNoHost, IsWithHost, is_gate, IsLoop, IsBelow, IsPointBelow, GivesUsedKinds, IsProblem, AreUsedKinds, AcceptsPlacement, place_by, place_of, places_after, register_nodes, IsHostedBy}
 use Rattle.std.proofs.Common.{nat_abs, MatchBool, All}
 use Rattle.std.specs.Result.{result_ok}
 use Rattle.std.specs.Str.{bytes_eq}

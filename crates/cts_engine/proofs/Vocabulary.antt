@@ -78,7 +78,7 @@ pub use Rattle.place_reader.specs.Placements.{AcceptsPlacement, place_by, place_
 pub use Rattle.place_reader.specs.declared.fault.PlaceFault.{PlaceFault}
 pub use Rattle.schedule.specs.Schedules.{AreWithinWeights, IsAdmittedBy, IsLeastScheduleOf}
 pub use Rattle.cts_engine.specs.Accepted.{IsHostedBy, TellBoth, TellsDelays, TellAll, IsTableOf, IsPlacementOf, HasTableFault, HasPlacesFault, IsRefusal, bench_refusal_of, tech_refusal_of, places_refusal_of, IsCircuitRefusal}
-pub use Rattle.cts_engine.specs.ClockTrees.{IsClockTree, AreTreeLists, IsMadeTree}
+pub use Rattle.cts_engine.specs.ClockTrees.{IsClockTree, AreTreeLists}
 pub use Rattle.cts_engine.specs.PairConstraints.{AreConstraintsOf, HasSmallPairs}
 pub use Rattle.cts_engine.specs.RegisterTimes.{AreTreeArrivals, AreTimes, HasLeastPeriod}
 pub use Rattle.cts_engine.specs.SinkOutcomes.{AreTimedSinks}

@@ -1,5 +1,5 @@
 -- The words that the proofs of this crate have in common.
-pub use Rattle.std.proofs.Common.{ℕ, ◌≡◌, ◌<◌, ◌≤◌, ◌+◌, ◌-◌, List, [], ◌∷◌, ◌++◌, length, drop, take, Option, Some, inl, inr, refl, sym, ◌∙◌, ap, subst, arith, ◌*◌, Bool, true, false, cond, IsTrue, map, get_or, All, Contains, None, IsSomeAnd, ◌⊎◌, ◌==◌, not, ◌≢◌, ◌+ℤ◌, ◌-ℤ◌, ℤ, pos, negsuc, ◌*ℤ◌, ◌||◌, ◌≤ℤ◌, ◌↔◌, MatchBool, append-nil, set, zero, suc, filter, replicate, sum, AllPairs, ◌/◌, ◌%◌, ◌^◌, ◌&&◌, min, Any, reverse, append_assoc, vec_len, rules}
+pub use Rattle.std.proofs.Common.{ℕ, ◌≡◌, ◌<◌, ◌≤◌, ◌+◌, ◌-◌, List, [], ◌∷◌, ◌++◌, length, drop, take, Option, Some, inl, inr, refl, sym, ◌∙◌, ap, subst, arith, ◌*◌, Bool, true, false, cond, IsTrue, map, get_or, All, Contains, None, IsSomeAnd, ◌⊎◌, ◌==◌, not, ◌≢◌, ◌+ℤ◌, ◌-ℤ◌, ℤ, pos, negsuc, ◌*ℤ◌, ◌||◌, ◌≤ℤ◌, ◌↔◌, MatchBool, append-nil, set, zero, suc, filter, replicate, sum, AllPairs, ◌/◌, ◌%◌, ◌^◌, ◌&&◌, Any, reverse, append_assoc, vec_len, rules}
 pub use Rattle.std.proofs.Math.Nat.{mul-le-mul_right, mul-add}
 pub use Rattle.std.proofs.lemmas.Bool.{cases_lt, true≢false, cases_eq, and_parts, and_from, not-true, eqb-false, ne_eqb, leb-true, leb-false, eq-eqb, eqb-true, or_left, false≢true, or_cases, or_right}
 pub use Rattle.std.proofs.lemmas.Grind.{common_steps}
@@ -14,7 +14,7 @@ pub use Rattle.std.specs.Int.{int_min, int_max, bit_at, bit_not, trailing_zeros,
 pub use Rattle.std.specs.Int.Signed.{lt_z}
 pub use Rattle.std.specs.List.{slice_get, slice_range, sum_by, slice_index_or}
 pub use Rattle.std.specs.Option.{option_and_then, option_map, unwrap_or, option_map_or, option_to_list, IfSome}
-pub use Rattle.std.specs.Prelude.{nat_le, if◌then◌else◌, IsSome, int_lt, bit_and, bit_or, nat_abs, is_none}
+pub use Rattle.std.specs.Prelude.{if◌then◌else◌, IsSome, bit_and, bit_or, nat_abs}
 pub use Rattle.cts_model.proofs.PathRegisters.{path_within}
 pub use Rattle.cts_model.proofs.TopologyLemmas.{some_and}
 pub use Rattle.cts_model.specs.declared.circuit.Circuit.{Circuit}

@@ -1,6 +1,6 @@
 -- The words that the proofs of this crate have in common.
-pub use Rattle.std.proofs.Common.{◌≡◌, ◌<◌, ◌≤◌, ◌-◌, ◌*◌, ◌^◌, ℕ, List, All, Option, Some, None, length, map, refl, sym, ap, arith, ◌+◌, ℤ, pos, neg_ℤ, to_z, of_z, [], ◌∷◌, ◌++◌, get_or, codes, ap₂, ◌∙◌, subst, append_assoc, drop, append-nil, slice_get, length-append, ◌%◌, zero, suc, negsuc, ◌*ℤ◌, ◌+ℤ◌, ◌≤ℤ◌, nat_abs, inl, inr, ◌↔◌, ◌<ℤ◌, Bool, IsTrue, Result, Ok, Err, IsErrAnd, ◌⊎◌, ◌==◌, true, false, true≢false, position, IfOk, IfErr, ◌&&◌, cond, FitsSigned, ne_eqb, ◌≢◌, if◌then◌else◌, take, MatchBool, MatchOption, replicate, nat_le, set, drop-cons, nat_lt, lt-ltb, eq-eqb, ◌/◌, ◌||◌, not, rules, tests, Bor, slice_index_or}
-pub use Rattle.std.proofs.Math.Nat.{mul-div_cancel', one-dvd, dvd-mul_right, dvd-sub_iff_left, one-le-mul}
+pub use Rattle.std.proofs.Common.{◌≡◌, ◌<◌, ◌≤◌, ◌-◌, ◌*◌, ◌^◌, ℕ, List, All, Option, Some, None, length, map, refl, sym, ap, arith, ◌+◌, ℤ, pos, neg_ℤ, to_z, of_z, [], ◌∷◌, ◌++◌, get_or, codes, ap₂, ◌∙◌, subst, append_assoc, drop, append-nil, slice_get, length-append, ◌%◌, zero, suc, negsuc, ◌*ℤ◌, ◌+ℤ◌, ◌≤ℤ◌, nat_abs, inl, inr, ◌↔◌, ◌<ℤ◌, Bool, IsTrue, Result, Ok, Err, IsErrAnd, ◌⊎◌, ◌==◌, true, false, true≢false, position, IfOk, IfErr, ◌&&◌, cond, FitsSigned, ne_eqb, ◌≢◌, if◌then◌else◌, take, MatchBool, MatchOption, replicate, nat_le, set, drop-cons, nat_lt, lt-ltb, eq-eqb, ◌/◌, ◌||◌, rules, tests, Bor, slice_index_or}
+pub use Rattle.std.proofs.Math.Nat.{mul-div_cancel', dvd-mul_right, one-le-mul}
 pub use Rattle.std.proofs.lemmas.Bool.{cases_lt, false_from_ne_true, le-leb, leb-true}
 pub use Rattle.std.proofs.lemmas.Bool.Decides.{Decides-eqb, Decides-int_eq, nat_tests}
 pub use Rattle.std.proofs.lemmas.Grind.{flat_map-append}
@@ -10,7 +10,7 @@ pub use Rattle.std.proofs.lemmas.List.Elements.{All-map, All-append, All-cons, A
 pub use Rattle.std.proofs.lemmas.List.FromFn.{map-range_with_len_more, get_or-range_with_len, length-range_with_len, length-map-range_with_len, fill_by_all, get_or-map-range_with_len}
 pub use Rattle.std.proofs.lemmas.List.Splits.{slice_split_none, slice_split_at, length-slice_split, join_with_byte-slice_split, slice_split_first}
 pub use Rattle.std.proofs.lemmas.List.Sums.{position_or_len_is, passes_at_first}
-pub use Rattle.std.proofs.lemmas.Nat.Gcd.{IsGcd-swap, IsGcd-from_zero, mod-eq-zero_of_dvd, same_from_IsGcd, le_of_dvd}
+pub use Rattle.std.proofs.lemmas.Nat.Gcd.{mod-eq-zero_of_dvd, le_of_dvd}
 pub use Rattle.std.proofs.lemmas.Option.{get_or_from_slice_get, slice_get-get_or, slice_get_past, slice_get_within, unwrap_or-slice_get, none-some, same_Some}
 pub use Rattle.std.proofs.lemmas.Result.{IfOk-weaker, IfErr-weaker}
 pub use Rattle.std.proofs.lemmas.Slice.Eq.{bytes_eq-Decides}
@@ -38,10 +38,10 @@ pub use Rattle.cts_model.specs.declared.tree.Show.TheVariants.{Root, Pair, Sink}
 pub use Rattle.cts_model.specs.netlist.Circuits.{host_name, is_named, has_host}
 pub use Rattle.cts_model.specs.netlist.Kinds.{is_host}
 pub use Rattle.cts_model.specs.report.ReportBounds.{HasTreeBounds}
-pub use Rattle.cts_model.specs.text.Names.{is_name, is_short, is_mark, is_name_byte}
+pub use Rattle.cts_model.specs.text.Names.{is_name, is_short, is_name_byte}
 pub use Rattle.cts_model.specs.tree.Topologies.{root_of, source_of}
 pub use Rattle.name_set.proofs.OneName.{one_register, one_signal, few_registers}
-pub use Rattle.report_text.specs.Common.{signed_decimal, range_with_len, flat_map, list_any, slice_split, after_first, position_or_len, bytes_eq, digits_value, IsLowest, fraction_text, HasSizeBelow, SpellsWhole, SpellsQuotient, HaveSmallSizes, IsNoFraction, is_slash, Fraction, Circuit, Constraint, Point, Report, Version, First, Second, Lead, Tech, Show, Wire, register_name, IsBelow, IsPointBelow, HasSmallWeight, HasSmallWeights, IsBetweenRegisters, ShowsPeriodAmong, count_in, cycle_length, HasTimingBounds, IsMergeShow, IsOfSize, IsSmallWire, IsSourceShow, IsWithinBounds, ShowsAmong, IsSmallMerge, Spells, LeadsAmong, IsSmallLead, lead_line, lines_below, merge_line_at, no_wire, node_line_at, origin, period_show_lines, register_line_at, report_lines, show_words, source_line, timing_lines, tree_lines, version_line, path_line, signal_name, number_at, length_text, pathed_lines, point_words, wire_words, Words, line_for, count_line, period_line, register_line, text_of, line_of, constraint_line, slack_text, IsSmallPeriod, arrival_of, AreSmallSlacks, IsSmallSlack, grid_of, scheduled_length, register_names, ReportFault, NoMemory, Extra, BadLine, Missing, Flaw, Keyword, Form, Scale, Heading, Parts, Timed, MergeLine, NodeLine, SourceLine}
+pub use Rattle.report_text.specs.Common.{signed_decimal, range_with_len, flat_map, list_any, slice_split, after_first, position_or_len, bytes_eq, digits_value, IsLowest, fraction_text, HasSizeBelow, SpellsWhole, SpellsQuotient, HaveSmallSizes, IsNoFraction, is_slash, Fraction, Circuit, Constraint, Point, Report, Version, First, Second, Lead, Tech, Show, Wire, register_name, IsBelow, IsPointBelow, HasSmallWeight, HasSmallWeights, IsBetweenRegisters, ShowsPeriodAmong, count_in, cycle_length, HasTimingBounds, IsMergeShow, IsOfSize, IsSmallWire, IsSourceShow, IsWithinBounds, ShowsAmong, Spells, LeadsAmong, IsSmallLead, lead_line, lines_below, merge_line_at, no_wire, node_line_at, origin, period_show_lines, register_line_at, report_lines, show_words, source_line, timing_lines, tree_lines, version_line, path_line, signal_name, number_at, length_text, pathed_lines, point_words, wire_words, Words, line_for, count_line, period_line, register_line, text_of, line_of, constraint_line, slack_text, IsSmallPeriod, arrival_of, AreSmallSlacks, IsSmallSlack, grid_of, scheduled_length, register_names, ReportFault, NoMemory, Extra, BadLine, Missing, Flaw, Keyword, Form, Scale, Heading, Parts, Timed, MergeLine, NodeLine, SourceLine}
 pub use Rattle.report_text.specs.Vocabulary.{HasBody, arrivals_in, begin_of, lengths_in, merges_in, places_in, reaches_in, report_denoted, sink_reaches, wires_in, AreSteps, WordHasFlaw, sooner_flaw, rank, cycle_forms, forms_after, register_named, constraint_fields, length_field, is_word, slack_field, IsSmallCount, count_of, HasHeading, HasShown, heading_forms, HasStepsFlaw, IsBetween, IsNegativeQuotient, IsRefusedFor, keyword_text, version_text, HasFaultOrReport, OneReport, DenotesRegister, DenotesSignal, signal_names, HasParts, scale_in, whole, suffix, is_line_feed, words_of, HasFault, fault_of, HasPathed, HasRows, Counted, flaw_in, EndsIn, Keeps, LineLeft, ReadsForm, Takes, TakesNext, DenotesTimed, DenotesConstraint, DenotesLead, DenotesPeriod, DenotesShow, DenotesPath, SaysMerge, SaysNode, SaysSource, IsSmallScale, SaysTotal, coordinates, Left, ReadsLine, Stops, DenotesLine, DenotesVersion, TakesLine, StopsLine}
 pub use Rattle.report_text.specs.DenotedReports.{timed_line, denoted_lines, shows_in, sink_reach, lines_after}
 pub use Rattle.report_text.specs.Fields.{AreFewSteps, IsFormed, IsFractionForm, IsWholeSteps, IsFirstFlaw, LineHasFlaw, NamesRegister, NamesSignal, EachWord, IsFit, IsKnown, IsWithin}

@@ -1,5 +1,5 @@
 -- One merge more.
-use Rattle.cert_check.proofs.Vocabulary.{◌≡◌, true, rules, arith, common_steps}
+use Rattle.cert_check.proofs.Vocabulary.{◌≡◌, rules, arith, common_steps}
 use Rattle.cert_check.proofs.MarkLemmas.{marks_more}
 use Rattle.cert_check.proofs.shape.judge_merges.Goals as goal
 

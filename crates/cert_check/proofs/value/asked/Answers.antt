@@ -1,5 +1,5 @@
 -- The products are taken as they are.
-use Rattle.cert_check.proofs.Vocabulary.{◌≡◌, ◌-ℤ◌, ◌*ℤ◌, to_z, of_z, ◌∙◌, arith, w128, ints, to_z-of_z}
+use Rattle.cert_check.proofs.Vocabulary.{◌≡◌, ◌-ℤ◌, ◌*ℤ◌, ◌∙◌, arith, ints, to_z-of_z}
 use Rattle.cert_check.proofs.value.asked.Goals as goal
 
 pub overflow_sub-result : goal.overflow_sub-result

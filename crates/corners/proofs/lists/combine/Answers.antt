@@ -1,5 +1,5 @@
 -- A turn includes the list of one corner more, and in the end all are combined.
-use Rattle.corners.proofs.Vocabulary.{◌≡◌, ◌<◌, ◌∙◌, length, take, get_or, sym, ap, arith, get_or-take, length-take-le, take_all, take_more, IsCombined}
+use Rattle.corners.proofs.Vocabulary.{◌≡◌, ◌∙◌, take, get_or, arith, get_or-take, length-take-le, take_all, take_more, IsCombined}
 use Rattle.corners.proofs.SatisfiedLemmas.{satisfied_where_each}
 use Rattle.corners.proofs.SmallLemmas.{small_of_each}
 use Rattle.corners.proofs.lists.combine.Goals as goal

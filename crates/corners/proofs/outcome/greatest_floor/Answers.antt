@@ -1,5 +1,5 @@
 -- A turn takes in one floor more.
-use Rattle.corners.proofs.Vocabulary.{◌≡◌, ◌+◌, get_or, length, subst, sym, to_z, of_z, arith, int_max, w128, ints}
+use Rattle.corners.proofs.Vocabulary.{◌≡◌, ◌+◌, get_or, subst, sym, to_z, of_z, arith, int_max, w128, ints}
 use Rattle.corners.proofs.FloorLemmas.{IsGreatestSoFar, greatest_none, greatest_next, greatest_of_all, small_floor}
 use Rattle.corners.proofs.outcome.greatest_floor.Goals as goal
 

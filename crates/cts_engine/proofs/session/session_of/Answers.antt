@@ -1,4 +1,4 @@
-use Rattle.cts_engine.proofs.Vocabulary.{◌≤◌, ◌^◌, ◌∙◌, ap, sym, subst, arith, nat_abs, unsigned_abs, ints, IsWithin, grid_size, number_read, AreTimedSinks, Never}
+use Rattle.cts_engine.proofs.Vocabulary.{◌≤◌, ◌^◌, ◌∙◌, ap, sym, subst, arith, unsigned_abs, ints, IsWithin, grid_size, number_read, AreTimedSinks, Never}
 use Rattle.cts_engine.proofs.OutcomeLemmas.{never_exactly}
 use Rattle.cts_engine.proofs.SessionLemmas.{grid_within, session_is}
 use Rattle.cts_engine.proofs.SinkLemmas.{tree_source}

@@ -1,4 +1,4 @@
-use Rattle.cts_engine.proofs.Vocabulary.{◌≡◌, ◌^◌, ◌∙◌, length, refl, sym, subst, arith, All, IsBelow, sinks_of, AreTreeSinks, length-sinks_of}
+use Rattle.cts_engine.proofs.Vocabulary.{◌^◌, sym, subst, arith, All, IsBelow, length-sinks_of}
 use Rattle.cts_engine.proofs.CycleLengths.{few_registers}
 use Rattle.cts_engine.proofs.SinkLemmas.{tree_sinks}
 use Rattle.cts_engine.proofs.TimingBounds.{arrivals_small}

@@ -1,5 +1,5 @@
 -- Each kind of show.
-use Rattle.cert_check.proofs.Vocabulary.{◌≡◌, ◌↔◌, ◌<◌, ◌+ℤ◌, IsTrue, length, pos, get_or, sym, subst, ◌∙◌, arith, w128, false≢true, ints, to_z-of_z, Sink, rotated_distance, number_at, source_of}
+use Rattle.cert_check.proofs.Vocabulary.{◌≡◌, ◌↔◌, ◌<◌, ◌+ℤ◌, IsTrue, length, pos, get_or, subst, ◌∙◌, arith, w128, false≢true, ints, to_z-of_z, Sink, rotated_distance, number_at, source_of}
 use Rattle.cert_check.proofs.ShowLemmas.{denotes_found}
 use Rattle.cert_check.proofs.judge.Judge.gives_source.Goals as goal
 

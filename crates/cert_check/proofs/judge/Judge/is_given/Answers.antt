@@ -1,5 +1,5 @@
 -- What joins the pair at the place is that of the constraint there, if there is one.
-use Rattle.cert_check.proofs.Vocabulary.{false, pos, rules, subst, sym, arith, IfSome, slice_get_past, IsConstraintOf}
+use Rattle.cert_check.proofs.Vocabulary.{false, pos, rules, arith, slice_get_past}
 use Rattle.cert_check.proofs.ConstraintTests.{given_at, small_at}
 use Rattle.cert_check.proofs.judge.Judge.is_given.Goals as goal
 

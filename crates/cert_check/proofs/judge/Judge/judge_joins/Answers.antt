@@ -1,5 +1,5 @@
 -- One constraint more.
-use Rattle.cert_check.proofs.Vocabulary.{◌<◌, rules, IsTrue, ap, length, refl, arith, Together}
+use Rattle.cert_check.proofs.Vocabulary.{◌<◌, rules, IsTrue, length, refl, arith, Together}
 use Rattle.cert_check.proofs.FirstPlaces.{at_place, fails_here}
 use Rattle.cert_check.proofs.TailLemmas.{walked_next}
 use Rattle.cert_check.proofs.judge.Judge.judge_joins.Goals as goal

@@ -1,5 +1,5 @@
 -- The merge stands at the place.
-use Rattle.cert_check.proofs.Vocabulary.{◌+◌, length, subst, sym, ◌∙◌, arith, IfSome, false≢true, first_made, second_made, IsReachOver}
+use Rattle.cert_check.proofs.Vocabulary.{◌+◌, length, ◌∙◌, arith, first_made, second_made}
 use Rattle.cert_check.proofs.FirstPlaces.{denied}
 use Rattle.cert_check.proofs.MarkLemmas.{some_if}
 use Rattle.cert_check.proofs.shaped.ShapedTree.is_merge_shown.Goals as goal

@@ -1,5 +1,5 @@
 -- A turn includes one place more, and in the end the list is included.
-use Rattle.std.proofs.Common.{◌≡◌, length, refl, arith}
+use Rattle.std.proofs.Common.{◌≡◌, length, arith}
 use Rattle.corners.proofs.InclusionLemmas.{including_none, including_next, included}
 use Rattle.corners.proofs.fold.Combined.include.Goals as goal
 
