@@ -1,5 +1,6 @@
 -- The sections of a report after what shows its period, one after the other.
-use Rattle.report_text.specs.Common.{◌-◌, ◌*◌, ℕ, Circuit, Version, count_in, Scale, Body}
+use Rattle.std.specs.Prelude.{◌-◌, ◌*◌, ℕ}
+use Rattle.report_text.specs.Common.{Circuit, Version, count_in, Scale, Body}
 use Rattle.report_text.specs.declared.field.Keyword.TheVariants as word
 use Rattle.report_text.specs.declared.form.Form.TheVariants as form
 use Rattle.report_text.specs.Rows.{Counted, HasRows}

@@ -40,6 +40,5 @@ pub use Rattle.report_text.specs.declared.tree_values.NodeLine.{NodeLine}
 pub use Rattle.report_text.specs.declared.tree_values.SourceLine.{SourceLine}
 pub use Rattle.std.specs.Fmt.{signed_decimal}
 pub use Rattle.std.specs.List.{position_or_len, range_with_len, flat_map, after_first, slice_split, list_any}
-pub use Rattle.std.specs.Prelude.{◌≡◌, ◌-◌, ◌*◌, ℕ, List, length, ℤ, neg_ℤ, [], ◌∷◌, ◌++◌, map, slice_index_or, codes, ◌⊎◌, ◌<◌, ◌≤◌, ◌^◌, pos, ◌≤ℤ◌, ◌<ℤ◌, ◌+ℤ◌, ◌*ℤ◌, Option, Some, None, nat_le, if◌then◌else◌, zero, suc, ◌+◌, ◌/◌, ◌==◌, ◌&&◌, Bool, replicate, get_or, All, drop, take, MatchBool, MatchOption, position, Result, Ok, Err, IfOk, ◌≢◌, false, IfErr, ◌↔◌, IsTrue, int_div, int_rem, nat_abs, OnOk, IsNone, IfSome}
 pub use Rattle.std.specs.Str.Parse.{digits_value}
 pub use Rattle.std.specs.Str.{bytes_eq}

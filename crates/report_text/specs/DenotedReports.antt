@@ -1,5 +1,6 @@
 -- The report that the sections of a text tell.
-use Rattle.report_text.specs.Common.{◌-◌, ◌*◌, ℕ, ℤ, neg_ℤ, List, [], ◌∷◌, ◌++◌, length, map, slice_index_or, codes, quotient_text, Circuit, Point, Slack, Merge, Show, Report, Tech, Wire, Words, count_line, period_line, register_line, grid_of, scheduled_length, lead_line, no_wire, origin, period_show_lines, version_line, Parts, Scale, Timed}
+use Rattle.std.specs.Prelude.{◌-◌, ◌*◌, ℕ, ℤ, neg_ℤ, List, [], ◌∷◌, ◌++◌, length, map, slice_index_or, codes}
+use Rattle.report_text.specs.Common.{quotient_text, Circuit, Point, Slack, Merge, Show, Report, Tech, Wire, Words, count_line, period_line, register_line, grid_of, scheduled_length, lead_line, no_wire, origin, period_show_lines, version_line, Parts, Scale, Timed}
 use Rattle.report_text.specs.Rows.{lines_of}
 use Rattle.report_text.specs.Values.{merged_line, placed_line, sourced_line}
 

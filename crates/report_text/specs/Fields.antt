@@ -1,6 +1,7 @@
 -- What a word of a report's line has to be, and what is wrong with it first. The forms are this
 -- project's choice.
-use Rattle.report_text.specs.Common.{◌≡◌, ◌⊎◌, ◌<◌, ◌≤◌, ◌^◌, ℕ, ℤ, pos, ◌≤ℤ◌, ◌<ℤ◌, ◌+ℤ◌, ◌*ℤ◌, Option, Some, None, List, [], ◌∷◌, length, codes, HasSizeBelow, IsLowest, SpellsWhole, SpellsQuotient, HaveSmallSizes, Circuit, register_name, signal_name, Flaw}
+use Rattle.std.specs.Prelude.{◌≡◌, ◌⊎◌, ◌<◌, ◌≤◌, ◌^◌, ℕ, ℤ, pos, ◌≤ℤ◌, ◌<ℤ◌, ◌+ℤ◌, ◌*ℤ◌, Option, Some, None, List, [], ◌∷◌, length, codes}
+use Rattle.report_text.specs.Common.{HasSizeBelow, IsLowest, SpellsWhole, SpellsQuotient, HaveSmallSizes, Circuit, register_name, signal_name, Flaw}
 use Rattle.report_text.specs.declared.field.Flaw.TheVariants as flaws
 use Rattle.report_text.specs.LineFields.{Field, Word, Version, Kind, Exactly, Number, Counted, Weight, Period, Steps, Slack, Register, Named, From, Signal}
 use Rattle.report_text.specs.Keywords.{keyword_text}

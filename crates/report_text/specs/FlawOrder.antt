@@ -1,5 +1,6 @@
 -- The order in which flaws are judged.
-use Rattle.report_text.specs.Common.{ℕ, nat_le, Option, Some, None, if◌then◌else◌, Flaw}
+use Rattle.std.specs.Prelude.{ℕ, nat_le, Option, Some, None, if◌then◌else◌}
+use Rattle.report_text.specs.Common.{Flaw}
 use Rattle.report_text.specs.declared.field.Flaw.TheVariants.{Form, Unknown, Unfit, Large}
 
 -- how many kinds of flaws are judged before that one

@@ -1,6 +1,7 @@
 -- Which fields a line of each form has, and which forms a report's lines have in order. Where a
 -- form has several kinds of lines, a fixed word denotes which. The forms are this project's choice.
-use Rattle.report_text.specs.Common.{count_in, ℕ, zero, suc, ◌+◌, ◌-◌, ◌*◌, ◌/◌, ◌^◌, ◌==◌, ◌&&◌, nat_le, Bool, pos, List, [], ◌∷◌, ◌++◌, length, map, replicate, get_or, if◌then◌else◌, position_or_len, range_with_len, bytes_eq, Circuit, Version, register_name, Keyword, Form, Scale, First, Second}
+use Rattle.std.specs.Prelude.{ℕ, zero, suc, ◌+◌, ◌-◌, ◌*◌, ◌/◌, ◌^◌, ◌==◌, ◌&&◌, nat_le, Bool, pos, List, [], ◌∷◌, ◌++◌, length, map, replicate, get_or, if◌then◌else◌}
+use Rattle.report_text.specs.Common.{count_in, position_or_len, range_with_len, bytes_eq, Circuit, Version, register_name, Keyword, Form, Scale, First, Second}
 use Rattle.report_text.specs.declared.field.Keyword.TheVariants as word
 use Rattle.report_text.specs.declared.form.Form.TheVariants as form
 use Rattle.report_text.specs.LineFields.{Field}

@@ -1,5 +1,6 @@
 -- What the first lines of a report tell: its version, its period and what shows it.
-use Rattle.report_text.specs.Common.{◌≡◌, ◌<◌, ◌≤◌, ℕ, Option, Some, None, List, [], ◌∷◌, All, drop, length, Circuit, Version, period_line, HasSmallWeights, ShowsPeriodAmong, count_in, cycle_length, period_show_lines, version_line, IsSmallPeriod, Form, Scale, Heading, Shown}
+use Rattle.std.specs.Prelude.{◌≡◌, ◌<◌, ◌≤◌, ℕ, Option, Some, None, List, [], ◌∷◌, All, drop, length}
+use Rattle.report_text.specs.Common.{Circuit, Version, period_line, HasSmallWeights, ShowsPeriodAmong, count_in, cycle_length, period_show_lines, version_line, IsSmallPeriod, Form, Scale, Heading, Shown}
 use Rattle.report_text.specs.declared.form.Form.TheVariants as form
 use Rattle.report_text.specs.Forms.{cycle_forms}
 use Rattle.report_text.specs.TimingValues.{IsSmallCount, shown_line}

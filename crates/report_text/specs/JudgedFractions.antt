@@ -1,5 +1,6 @@
 -- What is wrong with a fraction, once it is known which it is or why there is none.
-use Rattle.report_text.specs.Common.{ℕ, ℤ, pos, ◌≤ℤ◌, ◌<ℤ◌, ◌+ℤ◌, List, Option, IsLargeQuotient, IsNoFraction, SpellsQuotient, Flaw}
+use Rattle.std.specs.Prelude.{ℕ, ℤ, pos, ◌≤ℤ◌, ◌<ℤ◌, ◌+ℤ◌, List, Option}
+use Rattle.report_text.specs.Common.{IsLargeQuotient, IsNoFraction, SpellsQuotient, Flaw}
 use Rattle.report_text.specs.declared.field.Flaw.TheVariants.{Form, Large}
 use Rattle.report_text.specs.Fields.{AreSteps, IsFirstFlaw}
 

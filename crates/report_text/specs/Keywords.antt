@@ -1,5 +1,6 @@
 -- The fixed words of a report. They are this project's choice.
-use Rattle.report_text.specs.Common.{ℕ, List, codes, Version, First, Second, Keyword}
+use Rattle.std.specs.Prelude.{ℕ, List, codes}
+use Rattle.report_text.specs.Common.{Version, First, Second, Keyword}
 use Rattle.report_text.specs.declared.field.Keyword.TheVariants.{Cts, Period, Cycle, Floor, Path, Lead, Registers, Merges, Pair, Source, Sink, Root, Nodes, Wire, Dash, Zero}
 
 abbrev pub keyword_text : Keyword → List ℕ

@@ -1,5 +1,6 @@
 -- What holds of every text of a report.
-use Rattle.report_text.specs.Common.{◌≡◌, ◌⊎◌, ℕ, List, Option, Some, None, Circuit, Report, Tech, Spells, ReportFault}
+use Rattle.std.specs.Prelude.{◌≡◌, ◌⊎◌, ℕ, List, Option, Some, None}
+use Rattle.report_text.specs.Common.{Circuit, Report, Tech, Spells, ReportFault}
 use Rattle.report_text.specs.ReportFaults.{HasFault}
 
 -- a text spells at most one report, over one circuit and for one table

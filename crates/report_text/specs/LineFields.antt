@@ -1,5 +1,6 @@
 -- What a word of a report's line may be asked to be.
-use Rattle.report_text.specs.Common.{ℕ, ℤ, Keyword}
+use Rattle.std.specs.Prelude.{ℕ, ℤ}
+use Rattle.report_text.specs.Common.{Keyword}
 
 -- that word; a version, a kind of constraint; that number, one of a range, or how many words stand
 -- after it; a whole number of ticks, a period in ticks; so many steps of a unit below a bound in

@@ -1,5 +1,6 @@
 -- Registers and signals that are determined by their names.
-use Rattle.report_text.specs.Common.{◌≡◌, ◌<◌, ℕ, List, Option, Some, None, length, map, range_with_len, Circuit, register_name, signal_name}
+use Rattle.std.specs.Prelude.{◌≡◌, ◌<◌, ℕ, List, Option, Some, None, length, map}
+use Rattle.report_text.specs.Common.{range_with_len, Circuit, register_name, signal_name}
 use Rattle.report_text.specs.Fields.{NamesRegister, NamesSignal}
 
 -- the names of the circuit's signals, in order

@@ -1,5 +1,6 @@
 -- The parts of a whole report, one after the other.
-use Rattle.report_text.specs.Common.{◌≡◌, ℕ, List, [], length, Fraction, Circuit, Tech, grid_of, Scale, Parts}
+use Rattle.std.specs.Prelude.{◌≡◌, ℕ, List, [], length}
+use Rattle.report_text.specs.Common.{Fraction, Circuit, Tech, grid_of, Scale, Parts}
 use Rattle.report_text.specs.Bodies.{HasBody}
 use Rattle.report_text.specs.Headings.{HasHeading, HasShown}
 use Rattle.report_text.specs.Walks.{Left}

@@ -1,5 +1,6 @@
 -- The pieces of a line, as they are appended one after the other.
-use Rattle.report_text.specs.Common.{ℕ, pos, ◌≤ℤ◌, ◌<ℤ◌, ◌^◌, List, ◌∷◌, All, flat_map, Report, IsBelow, IsPointBelow, Words, IsSmallWire}
+use Rattle.std.specs.Prelude.{ℕ, pos, ◌≤ℤ◌, ◌<ℤ◌, ◌^◌, List, ◌∷◌, All}
+use Rattle.report_text.specs.Common.{flat_map, Report, IsBelow, IsPointBelow, Words, IsSmallWire}
 
 -- words that stand after others on a line: each after a space
 abbrev pub suffix : Words → List ℕ

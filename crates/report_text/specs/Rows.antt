@@ -1,5 +1,6 @@
 -- Lines of one form, one after the other, and the rows that they tell.
-use Rattle.report_text.specs.Common.{◌≡◌, ◌<◌, ◌≤◌, ◌+◌, ℕ, List, [], ◌∷◌, All, length, map, range_with_len, Circuit, Words, count_line, HasSmallWeight, IsBetweenRegisters, pathed_lines, Keyword, Form, Scale, Constraint, Second}
+use Rattle.std.specs.Prelude.{◌≡◌, ◌<◌, ◌≤◌, ◌+◌, ℕ, List, [], ◌∷◌, All, length, map}
+use Rattle.report_text.specs.Common.{range_with_len, Circuit, Words, count_line, HasSmallWeight, IsBetweenRegisters, pathed_lines, Keyword, Form, Scale, Constraint, Second}
 use Rattle.report_text.specs.declared.form.Form.TheVariants as form
 use Rattle.report_text.specs.Forms.{cycle_forms}
 use Rattle.report_text.specs.Keywords.{keyword_text}

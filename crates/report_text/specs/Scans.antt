@@ -1,6 +1,7 @@
 -- A line that is read word by word, each by the field that is due. What is wrong with a word is
 -- kept, and the words after it are read all the same: one of them may have what is judged sooner.
-use Rattle.report_text.specs.Common.{◌≡◌, ◌<◌, ℕ, List, [], ◌∷◌, ◌++◌, Option, Some, None, Result, Ok, Err, IfOk, length, drop, Circuit, Words, Flaw, Form, Scale}
+use Rattle.std.specs.Prelude.{◌≡◌, ◌<◌, ℕ, List, [], ◌∷◌, ◌++◌, Option, Some, None, Result, Ok, Err, IfOk, length, drop}
+use Rattle.report_text.specs.Common.{Circuit, Words, Flaw, Form, Scale}
 use Rattle.report_text.specs.declared.field.Flaw.TheVariants as flaws
 use Rattle.report_text.specs.LineFields.{Field}
 use Rattle.report_text.specs.Fields.{LineHasFlaw}

@@ -1,6 +1,7 @@
 -- What the lines of a report's timing tell: values within their bounds, of which a report has just
 -- these words.
-use Rattle.report_text.specs.Common.{Timed, ◌≡◌, ◌<◌, ◌≤◌, ◌^◌, ℕ, Option, Some, None, List, length, All, codes, Fraction, Circuit, Constraint, Lead, IsBelow, Words, count_line, floor_line, line_for, period_line, register_line, IsBetweenRegisters, HasSmallWeight, LeadsAmong, IsSmallLead, path_line, lead_line, IsSmallPeriod, AreSmallSlacks, Form, Scale}
+use Rattle.std.specs.Prelude.{◌≡◌, ◌<◌, ◌≤◌, ◌^◌, ℕ, Option, Some, None, List, length, All, codes}
+use Rattle.report_text.specs.Common.{Timed, Fraction, Circuit, Constraint, Lead, IsBelow, Words, count_line, floor_line, line_for, period_line, register_line, IsBetweenRegisters, HasSmallWeight, LeadsAmong, IsSmallLead, path_line, lead_line, IsSmallPeriod, AreSmallSlacks, Form, Scale}
 use Rattle.report_text.specs.Fields.{LineHasFlaw}
 use Rattle.report_text.specs.Forms.{fields_of}
 

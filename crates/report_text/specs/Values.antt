@@ -1,5 +1,6 @@
 -- What the words of a report's line say.
-use Rattle.report_text.specs.Common.{◌≡◌, ◌^◌, ℕ, ℤ, pos, ◌≤ℤ◌, [], ◌∷◌, ◌++◌, length, take, codes, flat_map, signed_decimal, HasSizeBelow, quotient_text, Circuit, Point, IsBelow, IsPointBelow, Words, IsMergeShow, IsSmallMerge, IsSmallWire, IsSourceShow, ShowsAmong, show_words, Scale, MergeLine, NodeLine, SourceLine}
+use Rattle.std.specs.Prelude.{◌≡◌, ◌^◌, ℕ, ℤ, pos, ◌≤ℤ◌, [], ◌∷◌, ◌++◌, length, take, codes}
+use Rattle.report_text.specs.Common.{flat_map, signed_decimal, HasSizeBelow, quotient_text, Circuit, Point, IsBelow, IsPointBelow, Words, IsMergeShow, IsSmallMerge, IsSmallWire, IsSourceShow, ShowsAmong, show_words, Scale, MergeLine, NodeLine, SourceLine}
 
 -- there are steps, and few enough for their words
 pub record IsSmallScale (scale : Scale) : Type 0 where

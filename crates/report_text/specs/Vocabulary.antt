@@ -1,5 +1,5 @@
 -- The words that the contracts of this crate have in common.
-pub use Rattle.report_text.specs.Common.{quotient_text, HasSizeBelow, fraction_text, SpellsWhole, SpellsQuotient, HaveSmallSizes, Circuit, Report, Second, Tech, register_name, IsBelow, IsPointBelow, count_in, ShowsPeriodAmong, Spells, IsSmallWire, HasSmallWeight, IsBetweenRegisters, LeadsAmong, ShowsAmong, IsOfSize, IsWithinBounds, HasTimingBounds, lead_line, no_wire, period_show_lines, version_line, signal_name, pathed_lines, path_line, show_words, report_lines, register_line_at, lines_below, timing_lines, length_text, merge_line_at, node_line_at, number_at, point_words, source_line, tree_lines, wire_words, Words, count_line, period_line, register_line, line_for, text_of, slack_text, line_of, constraint_line, cycle_lines, show_lines, IsSmallPeriod, arrival_of, IsSmallSlack, ArePadded, register_names, Extra, NoMemory, ReportFault, Form, Scale, signed_decimal, range_with_len, flat_map, ◌≡◌, ◌*◌, ℕ, List, length, ℤ, [], ◌∷◌, ◌++◌, map, slice_index_or, codes, ◌⊎◌, ◌<◌, ◌≤◌, ◌^◌, pos, ◌≤ℤ◌, ◌<ℤ◌, ◌*ℤ◌, Some, None, if◌then◌else◌, ◌+◌, ◌==◌, replicate, get_or, All, drop, take, MatchOption, position, Ok, Err, IfOk, ◌≢◌, IfErr, ◌↔◌, IsTrue, int_div, int_rem, nat_abs, OnOk, IsNone, IfSome}
+pub use Rattle.report_text.specs.Common.{quotient_text, HasSizeBelow, fraction_text, SpellsWhole, SpellsQuotient, HaveSmallSizes, Circuit, Report, Second, Tech, register_name, IsBelow, IsPointBelow, count_in, ShowsPeriodAmong, Spells, IsSmallWire, HasSmallWeight, IsBetweenRegisters, LeadsAmong, ShowsAmong, IsOfSize, IsWithinBounds, HasTimingBounds, lead_line, no_wire, period_show_lines, version_line, signal_name, pathed_lines, path_line, show_words, report_lines, register_line_at, lines_below, timing_lines, length_text, merge_line_at, node_line_at, number_at, point_words, source_line, tree_lines, wire_words, Words, count_line, period_line, register_line, line_for, text_of, slack_text, line_of, constraint_line, cycle_lines, show_lines, IsSmallPeriod, arrival_of, IsSmallSlack, ArePadded, register_names, Extra, NoMemory, ReportFault, Form, Scale, signed_decimal, range_with_len, flat_map}
 pub use Rattle.report_text.specs.Bodies.{HasBody}
 pub use Rattle.report_text.specs.DenotedReports.{arrivals_in, begin_of, lengths_in, merges_in, places_in, reaches_in, report_denoted, sink_reaches, slacks_in, wires_in}
 pub use Rattle.report_text.specs.Fields.{AreSteps, WordHasFlaw}

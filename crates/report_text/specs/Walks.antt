@@ -1,5 +1,6 @@
 -- Reading a text line by line, each by the form that is due.
-use Rattle.report_text.specs.Common.{◌≡◌, ◌≢◌, ◌<◌, ◌+◌, ◌==◌, false, ℕ, List, [], ◌∷◌, ◌++◌, Option, Some, None, length, map, take, drop, position, MatchBool, MatchOption, slice_split, Circuit, Words, text_of, ReportFault, BadLine, Missing, NoMemory, Form, Scale, Flaw, Version, version_line}
+use Rattle.std.specs.Prelude.{◌≡◌, ◌≢◌, ◌<◌, ◌+◌, ◌==◌, false, ℕ, List, [], ◌∷◌, ◌++◌, Option, Some, None, length, map, take, drop, position, MatchBool, MatchOption}
+use Rattle.report_text.specs.Common.{slice_split, Circuit, Words, text_of, ReportFault, BadLine, Missing, NoMemory, Form, Scale, Flaw, Version, version_line}
 use Rattle.report_text.specs.Fields.{LineHasFlaw}
 use Rattle.report_text.specs.Forms.{fields_of}
 use Rattle.report_text.specs.ReportFaults.{HasFirstFault, fault_of, is_line_feed, words_of}

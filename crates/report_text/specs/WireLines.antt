@@ -1,5 +1,6 @@
 -- The line of a length of wire, as reports and the command `moves` have it.
-use Rattle.report_text.specs.Common.{ℤ, [], ◌∷◌, codes, quotient_text, Words}
+use Rattle.std.specs.Prelude.{ℤ, [], ◌∷◌, codes}
+use Rattle.report_text.specs.Common.{quotient_text, Words}
 
 -- so many grid steps of wire in length units, each of which has as many as `grid` says
 abbrev pub wire_line : (grid steps : ℤ) → Words

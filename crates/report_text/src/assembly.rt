@@ -1,6 +1,7 @@
 //! Putting a report together from what its lines tell.
 
-ghost use Rattle.report_text.specs.Vocabulary.{◌≡◌, ◌^◌, ◌++◌, ◌∷◌, ℕ, List, [], All, IfOk, map, IsBelow, Spells, IsSmallPeriod, HasParts, arrivals_in, begin_of, lengths_in, merges_in, places_in, reaches_in, report_denoted, sink_reaches, slacks_in, wires_in, Circuit};
+ghost use Rattle.std.specs.Prelude.{◌≡◌, ◌^◌, ◌++◌, ◌∷◌, ℕ, List, [], All, IfOk, map};
+ghost use Rattle.report_text.specs.Vocabulary.{IsBelow, Spells, IsSmallPeriod, HasParts, arrivals_in, begin_of, lengths_in, merges_in, places_in, reaches_in, report_denoted, sink_reaches, slacks_in, wires_in, Circuit};
 
 use crate::sections::Parts;
 use crate::timing_values::Timed;

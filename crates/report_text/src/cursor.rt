@@ -1,6 +1,7 @@
 //! What is left of a text that is read line by line.
 
-ghost use Rattle.report_text.specs.Vocabulary.{[], None, Some, Extra, if◌then◌else◌, ◌≡◌, ◌==◌, map, position, IfOk, is_line_feed, words_of, Left, ◌<◌, length, IfErr, TakesLine, HasNoLine};
+ghost use Rattle.std.specs.Prelude.{[], None, Some, if◌then◌else◌, ◌≡◌, ◌==◌, map, position, IfOk, ◌<◌, length, IfErr};
+ghost use Rattle.report_text.specs.Vocabulary.{Extra, is_line_feed, words_of, Left, TakesLine, HasNoLine};
 
 use crate::fault::ReportFault;
 use cts_base::NoMemory;

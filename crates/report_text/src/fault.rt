@@ -1,4 +1,4 @@
-ghost use Rattle.report_text.specs.Vocabulary.{◌≡◌};
+ghost use Rattle.std.specs.Prelude.{◌≡◌};
 ghost use Rattle.report_text.specs.declared.fault.ReportFault.TheVariants as fault;
 
 use cts_base::NoMemory;

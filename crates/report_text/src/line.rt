@@ -1,6 +1,7 @@
 //! Appending a line: words with one space between them, and a line feed.
 
-ghost use Rattle.report_text.specs.Vocabulary.{◌≡◌, ◌<◌, pos, ◌++◌, ◌∷◌, [], length, map, OnOk, signed_decimal, line_of, count_line, constraint_line, line_for, suffix};
+ghost use Rattle.std.specs.Prelude.{◌≡◌, ◌<◌, pos, ◌++◌, ◌∷◌, [], length, map, OnOk};
+ghost use Rattle.report_text.specs.Vocabulary.{signed_decimal, line_of, count_line, constraint_line, line_for, suffix};
 
 use cts_base::NoMemory;
 use cts_model::{Circuit, Constraint};

@@ -1,6 +1,7 @@
 //! Appending the lines for a period and what shows it.
 
-ghost use Rattle.report_text.specs.Vocabulary.{◌≡◌, ◌++◌, length, All, OnOk, line_of, text_of, period_line, cycle_lines, show_lines, IsBetweenRegisters, ShowsPeriodAmong};
+ghost use Rattle.std.specs.Prelude.{◌≡◌, ◌++◌, length, All, OnOk};
+ghost use Rattle.report_text.specs.Vocabulary.{line_of, text_of, period_line, cycle_lines, show_lines, IsBetweenRegisters, ShowsPeriodAmong};
 
 use crate::line::{push_count, push_line, push_line_for};
 use cts_base::{Fraction, NoMemory, push_fraction};

@@ -1,6 +1,7 @@
 //! Reading a report: its lines one after the other, each by the form that is due.
 
-ghost use Rattle.report_text.specs.Vocabulary.{◌≡◌, ◌≢◌, ◌⊎◌, Some, Ok, Err, IfOk, IfErr, Spells, HasFaultOrReport, HasFault, Report, NoMemory, ReportFault};
+ghost use Rattle.std.specs.Prelude.{◌≡◌, ◌≢◌, ◌⊎◌, Some, Ok, Err, IfOk, IfErr};
+ghost use Rattle.report_text.specs.Vocabulary.{Spells, HasFaultOrReport, HasFault, Report, NoMemory, ReportFault};
 
 mod body;
 mod heading;

@@ -1,4 +1,5 @@
-ghost use Rattle.report_text.specs.Vocabulary.{◌≡◌, IfOk, Tech, text_of, IsOfSize, IsWithinBounds, HasSmallLengths, report_lines};
+ghost use Rattle.std.specs.Prelude.{◌≡◌, IfOk};
+ghost use Rattle.report_text.specs.Vocabulary.{Tech, text_of, IsOfSize, IsWithinBounds, HasSmallLengths, report_lines};
 ghost use Rattle.cts_model.specs.report.OneProof.{size_prop};
 
 use crate::timing::push_timing;

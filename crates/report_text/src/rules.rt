@@ -1,6 +1,7 @@
 //! What the lines of a report are judged by.
 
-ghost use Rattle.report_text.specs.Vocabulary.{◌≡◌, IfOk, register_names, signal_names, DenotesRegister, DenotesSignal, IsSmallPeriod, IsSmallScale, scale_in};
+ghost use Rattle.std.specs.Prelude.{◌≡◌, IfOk};
+ghost use Rattle.report_text.specs.Vocabulary.{register_names, signal_names, DenotesRegister, DenotesSignal, IsSmallPeriod, IsSmallScale, scale_in};
 
 use crate::form::Scale;
 use crate::timing::signal_name;

@@ -1,6 +1,7 @@
 //! Reading a line word by word, each by the field that is due.
 
-ghost use Rattle.report_text.specs.Vocabulary.{◌≡◌, rank, sooner_flaw, drop, map, LineLeft, ◌<◌, ◌≤◌, ◌^◌, [], ◌∷◌, IfErr, None, length, get_or, pos, codes, if◌then◌else◌, signed_decimal, fraction_text, quotient_text, register_name, IsBelow, signal_name, slack_text, IsSmallPeriod, IsSmallSlack, is_word, length_field, register_named, slack_field, keyword_text, version_text, EndsIn, Keeps, Takes, TakesNext, Circuit};
+ghost use Rattle.std.specs.Prelude.{◌≡◌, drop, map, ◌<◌, ◌≤◌, ◌^◌, [], ◌∷◌, IfErr, None, length, get_or, pos, codes, if◌then◌else◌};
+ghost use Rattle.report_text.specs.Vocabulary.{rank, sooner_flaw, LineLeft, signed_decimal, fraction_text, quotient_text, register_name, IsBelow, signal_name, slack_text, IsSmallPeriod, IsSmallSlack, is_word, length_field, register_named, slack_field, keyword_text, version_text, EndsIn, Keeps, Takes, TakesNext, Circuit};
 ghost use Rattle.report_text.specs.LineFields as field;
 
 use crate::field::{Flaw, Keyword};

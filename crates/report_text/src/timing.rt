@@ -1,6 +1,7 @@
 //! Appending the lines of a report's timing: the period, the schedule, and what shows them.
 
-ghost use Rattle.report_text.specs.Vocabulary.{◌≡◌, ◌<◌, ◌≤ℤ◌, ◌^◌, ℤ, pos, ◌++◌, ◌∷◌, [], length, map, codes, All, OnOk, Second, HasSizeBelow, line_of, text_of, count_line, register_line, slack_text, HasTimingBounds, IsBetweenRegisters, LeadsAmong, version_line, path_line, pathed_lines, period_show_lines, register_line_at, lead_line, lines_below, timing_lines, signal_name, arrival_of, suffix};
+ghost use Rattle.std.specs.Prelude.{◌≡◌, ◌<◌, ◌≤ℤ◌, ◌^◌, ℤ, pos, ◌++◌, ◌∷◌, [], length, map, codes, All, OnOk};
+ghost use Rattle.report_text.specs.Vocabulary.{Second, HasSizeBelow, line_of, text_of, count_line, register_line, slack_text, HasTimingBounds, IsBetweenRegisters, LeadsAmong, version_line, path_line, pathed_lines, period_show_lines, register_line_at, lead_line, lines_below, timing_lines, signal_name, arrival_of, suffix};
 
 use crate::line::{push_count, push_line, push_line_for, push_number, push_word};
 use crate::period::{push_period, push_show};

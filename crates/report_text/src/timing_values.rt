@@ -1,6 +1,7 @@
 //! What the lines of a report's timing say.
 
-ghost use Rattle.report_text.specs.Vocabulary.{◌≡◌, ◌<◌, IfOk, All, length, map, replicate, IsBetweenRegisters, HasSmallWeight, signal_name, line_for, constraint_fields, Takes, DenotesPeriod, DenotesShow, DenotesConstraint, DenotesPath, DenotesLead, DenotesTimed, DenotesVersion};
+ghost use Rattle.std.specs.Prelude.{◌≡◌, ◌<◌, IfOk, All, length, map, replicate};
+ghost use Rattle.report_text.specs.Vocabulary.{IsBetweenRegisters, HasSmallWeight, signal_name, line_for, constraint_fields, Takes, DenotesPeriod, DenotesShow, DenotesConstraint, DenotesPath, DenotesLead, DenotesTimed, DenotesVersion};
 ghost use Rattle.report_text.specs.LineFields as field;
 ghost use Rattle.report_text.specs.declared.form.Form.TheVariants as form;
 

@@ -1,6 +1,7 @@
 //! What the lines of a report's tree say.
 
-ghost use Rattle.report_text.specs.Vocabulary.{◌≡◌, ◌≤◌, ◌+◌, ◌*◌, ◌^◌, ℕ, [], ◌∷◌, All, IsNone, IfSome, replicate, take, flat_map, IsPointBelow, ArePadded, length_field, Takes, SaysMerge, SaysNode, SaysSource, SaysTotal, coordinates, Circuit};
+ghost use Rattle.std.specs.Prelude.{◌≡◌, ◌≤◌, ◌+◌, ◌*◌, ◌^◌, ℕ, [], ◌∷◌, All, IsNone, IfSome, replicate, take};
+ghost use Rattle.report_text.specs.Vocabulary.{flat_map, IsPointBelow, ArePadded, length_field, Takes, SaysMerge, SaysNode, SaysSource, SaysTotal, coordinates, Circuit};
 ghost use Rattle.report_text.specs.declared.form.Form.TheVariants as form;
 
 use crate::field::Keyword;

@@ -1,6 +1,7 @@
 //! The words of a line, and the fixed ones among them.
 
-ghost use Rattle.report_text.specs.Vocabulary.{◌≡◌, [], map, drop, get_or, is_word, keyword_text};
+ghost use Rattle.std.specs.Prelude.{◌≡◌, [], map, drop, get_or};
+ghost use Rattle.report_text.specs.Vocabulary.{is_word, keyword_text};
 
 use crate::field::Keyword;
 

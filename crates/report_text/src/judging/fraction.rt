@@ -1,4 +1,5 @@
-ghost use Rattle.report_text.specs.Vocabulary.{◌≡◌, ◌↔◌, IfErr, IfOk, IsTrue, MatchOption, pos, ◌≤ℤ◌, ◌<ℤ◌, ◌*ℤ◌, ◌^◌, int_div, int_rem, nat_abs, fraction_text, quotient_text, HaveSmallSizes, SpellsQuotient, Circuit, IsBelow, slack_text, IsSmallPeriod, IsSmallSlack, AreSteps, WordHasFlaw, HasStepsFlaw, IsBetween, IsNegativeQuotient, IsRefusedFor, flaw_in};
+ghost use Rattle.std.specs.Prelude.{◌≡◌, ◌↔◌, IfErr, IfOk, IsTrue, MatchOption, pos, ◌≤ℤ◌, ◌<ℤ◌, ◌*ℤ◌, ◌^◌, int_div, int_rem, nat_abs};
+ghost use Rattle.report_text.specs.Vocabulary.{fraction_text, quotient_text, HaveSmallSizes, SpellsQuotient, Circuit, IsBelow, slack_text, IsSmallPeriod, IsSmallSlack, AreSteps, WordHasFlaw, HasStepsFlaw, IsBetween, IsNegativeQuotient, IsRefusedFor, flaw_in};
 ghost use Rattle.report_text.specs.LineFields.{Period, Slack, Steps};
 
 use crate::field::{Flaw, Keyword};

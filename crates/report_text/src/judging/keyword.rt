@@ -1,4 +1,5 @@
-ghost use Rattle.report_text.specs.Vocabulary.{◌≡◌, ◌↔◌, IfOk, IsTrue, codes, if◌then◌else◌, Circuit, WordHasFlaw, keyword_text, version_text, flaw_in};
+ghost use Rattle.std.specs.Prelude.{◌≡◌, ◌↔◌, IfOk, IsTrue, codes, if◌then◌else◌};
+ghost use Rattle.report_text.specs.Vocabulary.{Circuit, WordHasFlaw, keyword_text, version_text, flaw_in};
 ghost use Rattle.report_text.specs.LineFields as field;
 
 use crate::field::{Flaw, Keyword};

@@ -1,4 +1,5 @@
-ghost use Rattle.report_text.specs.Vocabulary.{◌≡◌, ◌<◌, ◌≤◌, IfOk, length, register_name, signal_name, WordHasFlaw, flaw_in};
+ghost use Rattle.std.specs.Prelude.{◌≡◌, ◌<◌, ◌≤◌, IfOk, length};
+ghost use Rattle.report_text.specs.Vocabulary.{register_name, signal_name, WordHasFlaw, flaw_in};
 ghost use Rattle.report_text.specs.LineFields.{From, Named, Register, Signal};
 
 use crate::field::Flaw;

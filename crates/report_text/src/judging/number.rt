@@ -1,4 +1,5 @@
-ghost use Rattle.report_text.specs.Vocabulary.{◌≡◌, ◌↔◌, ◌≤◌, ◌^◌, IfOk, IsTrue, pos, signed_decimal, SpellsWhole, Circuit, IsBelow, WordHasFlaw, flaw_in};
+ghost use Rattle.std.specs.Prelude.{◌≡◌, ◌↔◌, ◌≤◌, ◌^◌, IfOk, IsTrue, pos};
+ghost use Rattle.report_text.specs.Vocabulary.{signed_decimal, SpellsWhole, Circuit, IsBelow, WordHasFlaw, flaw_in};
 ghost use Rattle.report_text.specs.LineFields.{Counted, Exactly, Number, Weight};
 
 use crate::field::Flaw;

@@ -1,6 +1,7 @@
 //! The sections of a report after what shows its period.
 
-ghost use Rattle.report_text.specs.Vocabulary.{◌≡◌, ◌<◌, ◌≤◌, IfOk, IfErr, length, HasBody, forms_after, count_in, Stops};
+ghost use Rattle.std.specs.Prelude.{◌≡◌, ◌<◌, ◌≤◌, IfOk, IfErr, length};
+ghost use Rattle.report_text.specs.Vocabulary.{HasBody, forms_after, count_in, Stops};
 
 use crate::cursor::Cursor;
 use crate::fault::ReportFault;

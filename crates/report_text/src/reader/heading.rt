@@ -1,6 +1,7 @@
 //! The heading of a report, and what shows its period.
 
-ghost use Rattle.report_text.specs.Vocabulary.{◌<◌, Some, IfOk, IfErr, cycle_forms, HasHeading, HasShown, IsSmallCount, count_of, heading_forms, Stops, Scale};
+ghost use Rattle.std.specs.Prelude.{◌<◌, Some, IfOk, IfErr};
+ghost use Rattle.report_text.specs.Vocabulary.{cycle_forms, HasHeading, HasShown, IsSmallCount, count_of, heading_forms, Stops, Scale};
 
 use crate::cursor::Cursor;
 use crate::fault::ReportFault;

@@ -1,6 +1,7 @@
 //! A line of a report that is read by the form that is due.
 
-ghost use Rattle.report_text.specs.Vocabulary.{◌≡◌, ◌≢◌, ◌<◌, ℕ, List, length, map, IfOk, IfErr, Words, count_line, keyword_text, fault_of, words_of, ReadsForm, DenotesLine, HasNoLine, ReadsLine, StopsLine, TakesLine, Circuit, Form, Scale};
+ghost use Rattle.std.specs.Prelude.{◌≡◌, ◌≢◌, ◌<◌, ℕ, List, length, map, IfOk, IfErr};
+ghost use Rattle.report_text.specs.Vocabulary.{Words, count_line, keyword_text, fault_of, words_of, ReadsForm, DenotesLine, HasNoLine, ReadsLine, StopsLine, TakesLine, Circuit, Form, Scale};
 ghost use Rattle.report_text.specs.declared.fault.ReportFault.TheVariants as faults;
 ghost use Rattle.report_text.specs.declared.form.Form.TheVariants as form;
 

@@ -1,6 +1,7 @@
 //! The parts of a whole report.
 
-ghost use Rattle.report_text.specs.Vocabulary.{◌≡◌, ◌≢◌, ◌<◌, ℕ, List, Some, IfOk, IfErr, Tech, HasHeading, IsSmallCount, HasParts, scale_in, whole, HasFault, NoMemory};
+ghost use Rattle.std.specs.Prelude.{◌≡◌, ◌≢◌, ◌<◌, ℕ, List, Some, IfOk, IfErr};
+ghost use Rattle.report_text.specs.Vocabulary.{Tech, HasHeading, IsSmallCount, HasParts, scale_in, whole, HasFault, NoMemory};
 
 use crate::cursor::Cursor;
 use crate::fault::ReportFault;

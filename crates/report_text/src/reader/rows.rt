@@ -1,6 +1,7 @@
 //! Lines of one form, one after the other.
 
-ghost use Rattle.report_text.specs.Vocabulary.{◌<◌, ◌≤◌, ◌∷◌, IfOk, IfErr, map, range_with_len, cycle_forms, Counted, HasPathed, HasRows, Stops, Second};
+ghost use Rattle.std.specs.Prelude.{◌<◌, ◌≤◌, ◌∷◌, IfOk, IfErr, map};
+ghost use Rattle.report_text.specs.Vocabulary.{range_with_len, cycle_forms, Counted, HasPathed, HasRows, Stops, Second};
 ghost use Rattle.report_text.specs.declared.form.Form.TheVariants as form;
 
 use crate::cursor::Cursor;
