@@ -191,24 +191,27 @@ module _ (problem : Problem) where
         counted = counted_looking 0 form 0 problem.circuit lines looks
             (subst (λ p. AreCounted p lines) (sym plan)
             (subst (λ version. AreCounted (report_plan version) lines) says.version
-            (counted_report problem.circuit says.report says.spelled.size problem.tech
+            (counted_report problem.circuit says.report says.size problem.tech
             says.shows.shown)));
         says = found_says problem.circuit problem.tech form looks says.report.period
             says.is.least_period;
-        spelled = says.spelled.lines;
+        spelled = says.lines;
       }
 
   -- by its own topology
   pub synth_text : (status : ℕ) (text : List ℕ) → IsSynthText problem status text
       → IsProblemText 0 forms.Synth status text
-  synth_text = found_or_never 0 forms.Synth refl (IsSynthesisText problem)
-      (λ text says. tree_text forms.Synth refl refl text says.tree)
+  synth_text = found_or_never 0 forms.Synth refl
+      (λ text. (is : IsSynthesisText problem text) × IsWithinBounds problem.tech is.tree.report)
+      (λ text says. tree_text forms.Synth refl refl text says.0.tree)
 
   -- or by one that is given
   pub embed_text : (topology : Topology) (status : ℕ) (text : List ℕ)
       → IsEmbedText problem topology status text → IsProblemText 0 forms.Embed status text
-  embed_text topology = found_or_never 0 forms.Embed refl (IsEmbeddingText problem topology)
-      (λ text says. tree_text forms.Embed refl refl text says.tree)
+  embed_text topology = found_or_never 0 forms.Embed refl
+      (λ text. (is : IsEmbeddingText problem topology text)
+      × IsWithinBounds problem.tech is.tree.report)
+      (λ text says. tree_text forms.Embed refl refl text says.0.tree)
 
   -- there is a wire for the places as they are, and one for each move
   length-wires : (IsWireFor : List Point → ℤ → Type 0) (places : List Point) (moves : List Move)

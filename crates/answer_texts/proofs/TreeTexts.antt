@@ -11,7 +11,9 @@ module _ (problem : Problem) (report : Report) (lowest : ShowsFromLowest report.
       → text ≡ text_of (report_lines problem.circuit report) → IsTreeText problem text
   tree_spelled topology made text spelled = record {
     report = report;
-    spelled = record { size = made.size; bounds = made.bounds; lines = spelled };
+    size = made.size;
+    grid = made.bounds.tree.grid;
+    lines = spelled;
     version = made.version;
     is = made.is;
     shows = made.shows;
@@ -43,6 +45,7 @@ module _ (problem : Problem) (report : Report) (lowest : ShowsFromLowest report.
     summary_says registers checked text spelled = record {
       printed = text_of (report_lines problem.circuit report);
       tree = synthesis_spelled (text_of (report_lines problem.circuit report)) refl;
+      bounds = made.made.bounds;
       checked = checked;
       spelled = spelled;
     }

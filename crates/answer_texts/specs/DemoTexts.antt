@@ -4,6 +4,7 @@ use Rattle.std.specs.Prelude.{◌≡◌, ℕ, List, [], ◌∷◌, codes}
 use Rattle.cts_model.specs.declared.problem.Problem.{Problem}
 use Rattle.cts_model.specs.declared.report.Report.{Report}
 use Rattle.cts_model.specs.text.PrintedLines.{Words, text_of, count_line, period_line}
+use Rattle.cts_model.specs.report.ReportBounds.{IsWithinBounds}
 use Rattle.cts_model.specs.report.ReportLines.{length_text}
 use Rattle.cert_check.specs.declared.verdict.Verdict.TheVariants.{Shown}
 use Rattle.cert_check.specs.Verdicts.{IsVerdict}
@@ -23,6 +24,7 @@ summary_lines registers report =
 pub record IsSummaryText (registers : ℕ) (problem : Problem) (text : List ℕ) : Type 0 where
   pub printed : List ℕ
   pub tree : IsSynthesisText problem printed
+  pub bounds : IsWithinBounds problem.tech tree.tree.report
   pub checked : IsVerdict problem tree.tree.report Shown
   pub spelled : text ≡ text_of (summary_lines registers tree.tree.report)
 

@@ -7,16 +7,21 @@ use Rattle.cts_model.specs.declared.report.Report.{Report}
 use Rattle.cts_model.specs.declared.report.Version.TheVariants.{Second}
 use Rattle.cts_model.specs.declared.tree.Topology.{Topology}
 use Rattle.cts_model.specs.tree.GreedyMerges.{IsGreedy}
-use Rattle.cts_model.specs.report.ReportBounds.{Spells}
+use Rattle.cts_model.specs.report.ReportBounds.{IsOfSize}
+use Rattle.cts_model.specs.report.ReportLines.{report_lines}
 use Rattle.cts_model.specs.report.Shown.{sinks_in}
+use Rattle.cts_model.specs.text.PrintedLines.{text_of}
+use Rattle.cts_model.specs.tree.Problems.{grid_of}
 use Rattle.outcomes.specs.ShownCycles.{ShowsFromLowest}
 use Rattle.outcomes.specs.Syntheses.{IsSynthesis, ShowsSynthesis}
 
--- the bytes spell a clock tree for the problem, and what shows it; the cycle that shows the period
--- begins at its lowest register
+-- the bytes are the lines of a clock tree for the problem, whose lengths are in steps of its grid,
+-- and what shows it; the cycle that shows the period begins at its lowest register
 pub record IsTreeText (problem : Problem) (text : List ℕ) : Type 0 where
   pub report : Report
-  pub spelled : Spells problem.circuit problem.tech text report
+  pub size : IsOfSize problem.circuit report
+  pub grid : report.grid ≡ grid_of report.period problem.tech
+  pub lines : text ≡ text_of (report_lines problem.circuit report)
   pub version : report.version ≡ Second
   pub is : IsSynthesis problem report
   pub shows : ShowsSynthesis problem report

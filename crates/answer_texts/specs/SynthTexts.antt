@@ -8,6 +8,7 @@ use Rattle.cts_model.specs.declared.tech.Tech.{Tech}
 use Rattle.cts_model.specs.declared.tree.Topology.{Topology}
 use Rattle.cts_model.specs.timing.LeastPeriods.{IsForbidding}
 use Rattle.cts_model.specs.text.PrintedLines.{Words, text_of}
+use Rattle.cts_model.specs.report.ReportBounds.{IsWithinBounds}
 use Rattle.cts_model.specs.report.ReportLines.{report_lines}
 use Rattle.outcomes.specs.declared.synthesis.Outcome.{Outcome}
 use Rattle.outcomes.specs.declared.synthesis.Outcome.TheVariants.{Done, Never}
@@ -28,14 +29,18 @@ IsFoundOrNever problem Found zero text = Found text
 IsFoundOrNever problem Found (suc zero) text = IsNeverText problem.circuit problem.tech text
 IsFoundOrNever problem Found (suc (suc more)) text = ⊥
 
--- the bytes are a text for the problem, with its status
+-- the bytes are a text for the problem, with its status; a tree's report is within the bounds in
+-- which it is read again
 abbrev pub IsSynthText : Problem → (status : ℕ) → List ℕ → Type 0
-IsSynthText problem status text = IsFoundOrNever problem (IsSynthesisText problem) status text
+IsSynthText problem status text = IsFoundOrNever problem
+    (λ bytes. (is : IsSynthesisText problem bytes) × IsWithinBounds problem.tech is.tree.report)
+    status text
 
 -- or for the problem by this topology
 abbrev pub IsEmbedText : Problem → Topology → (status : ℕ) → List ℕ → Type 0
-IsEmbedText problem topology status text =
-    IsFoundOrNever problem (IsEmbeddingText problem topology) status text
+IsEmbedText problem topology status text = IsFoundOrNever problem
+    (λ bytes. (is : IsEmbeddingText problem topology bytes)
+    × IsWithinBounds problem.tech is.tree.report) status text
 
 -- the lines for an outcome
 abbrev pub synthesis_lines : Circuit → Outcome → List Words
