@@ -1,7 +1,7 @@
 -- Arrivals that can be printed.
 use Rattle.answer_texts.proofs.Vocabulary.{◌≡◌, ◌^◌, ℤ, arith, ints, All-weaker, Fraction, Schedule, AreSmallCommonTimes, CanPrint}
 use Rattle.cts_base.specs.Fractions.{HasSizeBelow}
-use Rattle.cts_model.specs.placement.Points.{IsBelow}
+use Rattle.cts_model.specs.Vocabulary.{IsBelow}
 use Rattle.safety_margin.specs.SparingSchedules.{IsSmallSparing}
 
 -- what is below 2^93 is below 10^37

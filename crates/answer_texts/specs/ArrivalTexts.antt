@@ -2,12 +2,7 @@
 -- Optimization", 1990.
 use Rattle.std.specs.Prelude.{◌^◌, ℕ, pos, ◌≤ℤ◌, List, [], ◌∷◌, All, length, replicate, codes}
 use Rattle.cts_base.specs.Fractions.{HasSizeBelow, quotient_text}
-use Rattle.cts_model.specs.declared.circuit.Circuit.{Circuit}
-use Rattle.cts_model.specs.declared.schedule.Schedule.{Schedule}
-use Rattle.cts_model.specs.netlist.Paths.{register_name}
-use Rattle.cts_model.specs.text.PrintedLines.{Words, count_line}
-use Rattle.cts_model.specs.report.ReportLines.{lines_below}
-use Rattle.cts_model.specs.timing.Schedules.{arrival_of}
+use Rattle.cts_model.specs.Vocabulary.{Circuit, Schedule, register_name, Words, count_line, lines_below, arrival_of}
 
 -- a register and its arrival in ticks, by its number
 abbrev pub arrival_line : Circuit → Schedule → ℕ → Words

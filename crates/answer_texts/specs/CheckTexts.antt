@@ -1,10 +1,7 @@
 -- What the command `check` says of a report, whoever made it: that it shows what it says of the
 -- problem, or why it doesn't. Fishburn 1990; Boese and Kahng 1992; Chao and others 1992.
 use Rattle.std.specs.Prelude.{◌≡◌, ℕ, List, [], ◌∷◌, codes}
-use Rattle.cts_model.specs.declared.problem.Problem.{Problem}
-use Rattle.cts_model.specs.declared.report.Report.{Report}
-use Rattle.cts_model.specs.text.PrintedLines.{Words, text_of}
-use Rattle.cts_model.specs.report.Shown.{IsShown, ShowsLeast}
+use Rattle.cts_model.specs.Vocabulary.{Problem, Report, Words, text_of, IsShown, ShowsLeast}
 
 -- the line for a report that is shown
 abbrev pub shown_line : Words

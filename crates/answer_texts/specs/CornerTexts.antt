@@ -3,13 +3,8 @@
 -- 1990, in each corner.
 use Rattle.std.specs.Prelude.{◌≡◌, ◌+◌, ℕ, pos, List, [], ◌∷◌, ◌++◌, length, slice_index_or, codes}
 use Rattle.std.specs.Fmt.{signed_decimal}
-use Rattle.cts_model.specs.declared.circuit.Circuit.{Circuit}
-use Rattle.cts_model.specs.declared.constraint.Constraint.{Constraint}
-use Rattle.cts_model.specs.declared.period.PeriodShow.{PeriodShow}
+use Rattle.cts_model.specs.Vocabulary.{Circuit, Constraint, PeriodShow, Tech, Words, text_of, count_line, floor_line, line_for, period_line, lines_below}
 use Rattle.cts_model.specs.declared.period.PeriodShow.TheVariants as shows
-use Rattle.cts_model.specs.declared.tech.Tech.{Tech}
-use Rattle.cts_model.specs.text.PrintedLines.{Words, text_of, count_line, floor_line, line_for, period_line}
-use Rattle.cts_model.specs.report.ReportLines.{lines_below}
 use Rattle.corners.specs.declared.outcome.CornersOutcome.{CornersOutcome}
 use Rattle.corners.specs.declared.outcome.CornersOutcome.TheVariants.{Found, Never}
 use Rattle.corners.specs.CornerLists.{constraint_at}

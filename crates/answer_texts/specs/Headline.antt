@@ -2,16 +2,7 @@
 -- schedule and wire are the least, and what shows them. Fishburn, "Clock Skew Optimization", 1990;
 -- Boese and Kahng 1992; Chao and others 1992.
 use Rattle.std.specs.Prelude.{◌≡◌, ℕ, List}
-use Rattle.cts_model.specs.declared.problem.Problem.{Problem}
-use Rattle.cts_model.specs.declared.report.Report.{Report}
-use Rattle.cts_model.specs.declared.report.Version.TheVariants.{Second}
-use Rattle.cts_model.specs.declared.tree.Topology.{Topology}
-use Rattle.cts_model.specs.tree.GreedyMerges.{IsGreedy}
-use Rattle.cts_model.specs.report.ReportBounds.{IsOfSize}
-use Rattle.cts_model.specs.report.ReportLines.{report_lines}
-use Rattle.cts_model.specs.report.Shown.{sinks_in}
-use Rattle.cts_model.specs.text.PrintedLines.{text_of}
-use Rattle.cts_model.specs.tree.Problems.{grid_of}
+use Rattle.cts_model.specs.Vocabulary.{Problem, Report, Second, Topology, IsGreedy, IsOfSize, report_lines, sinks_in, text_of, grid_of}
 use Rattle.outcomes.specs.ShownCycles.{ShowsFromLowest}
 use Rattle.outcomes.specs.Syntheses.{IsSynthesis, ShowsSynthesis}
 

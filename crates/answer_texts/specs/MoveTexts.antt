@@ -2,21 +2,7 @@
 -- register, or what forbids every period. Boese and Kahng 1992; Chao and others 1992.
 use Rattle.std.specs.Prelude.{◌≡◌, ℕ, ℤ, List, [], ◌∷◌, length, map, slice_set}
 use Rattle.cts_base.specs.declared.fraction.Fraction.{Fraction}
-use Rattle.cts_model.specs.declared.place.Point.{Point}
-use Rattle.cts_model.specs.declared.place.Sink.{Sink}
-use Rattle.cts_model.specs.declared.place.Uv.{Uv}
-use Rattle.cts_model.specs.declared.problem.Problem.{Problem}
-use Rattle.cts_model.specs.declared.schedule.Schedule.{Schedule}
-use Rattle.cts_model.specs.declared.tree.Merge.{Merge}
-use Rattle.cts_model.specs.declared.tree.Show.{Show}
-use Rattle.cts_model.specs.declared.tree.Tree.{Tree}
-use Rattle.cts_model.specs.tree.Embeddings.{IsLeastWire, RealisesOffsets, embedding_of, total_wire}
-use Rattle.cts_model.specs.tree.GreedyMerges.{IsGreedy}
-use Rattle.cts_model.specs.timing.LeastPeriods.{IsLeastFraction}
-use Rattle.cts_model.specs.placement.Points.{rotated}
-use Rattle.cts_model.specs.text.PrintedLines.{text_of}
-use Rattle.cts_model.specs.tree.Problems.{grid_of, on_grid, sinks_of}
-use Rattle.cts_model.specs.timing.Schedules.{IsLeastSchedule}
+use Rattle.cts_model.specs.Vocabulary.{Point, Sink, Uv, Problem, Schedule, Merge, Show, Tree, IsLeastWire, RealisesOffsets, embedding_of, total_wire, IsGreedy, IsLeastFraction, rotated, text_of, grid_of, on_grid, sinks_of, IsLeastSchedule}
 use Rattle.move_session.specs.declared.moves.Move.{Move}
 use Rattle.outcomes.specs.Syntheses.{IsPlacedTree}
 use Rattle.report_text.specs.WireLines.{wire_line}

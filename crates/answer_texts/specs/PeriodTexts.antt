@@ -3,13 +3,8 @@
 use Rattle.std.specs.Prelude.{◌≡◌, ℕ, List, [], ◌∷◌, codes}
 use Rattle.std.specs.Fmt.{signed_decimal}
 use Rattle.cts_base.specs.declared.fraction.Fraction.{Fraction}
-use Rattle.cts_model.specs.declared.circuit.Circuit.{Circuit}
-use Rattle.cts_model.specs.declared.constraint.Constraint.{Constraint}
-use Rattle.cts_model.specs.declared.period.PeriodShow.{PeriodShow}
-use Rattle.cts_model.specs.declared.tech.Tech.{Tech}
-use Rattle.cts_model.specs.declared.timing.ZeroSkew.{ZeroSkew}
+use Rattle.cts_model.specs.Vocabulary.{Circuit, Constraint, PeriodShow, Tech, ZeroSkew, Words, text_of, period_line, cycle_lines, show_lines}
 use Rattle.cts_model.specs.declared.timing.ZeroSkew.TheVariants as zeros
-use Rattle.cts_model.specs.text.PrintedLines.{Words, text_of, period_line, cycle_lines, show_lines}
 use Rattle.outcomes.specs.declared.period.PeriodOutcome.{PeriodOutcome}
 use Rattle.outcomes.specs.declared.period.PeriodOutcome.TheVariants.{Found, Never}
 use Rattle.outcomes.specs.PeriodOutcomes.{IsPeriodOutcome, BeginsLowest}

@@ -2,14 +2,7 @@
 -- reach each register and what the register has to spare. Fishburn, "Clock Skew Optimization",
 -- 1990.
 use Rattle.std.specs.Prelude.{◌≡◌, ◌^◌, ℕ, pos, ◌≤ℤ◌, List, ◌∷◌, ◌++◌, All, length, None, slice_index_or, codes}
-use Rattle.cts_model.specs.declared.circuit.Circuit.{Circuit}
-use Rattle.cts_model.specs.declared.schedule.Schedule.{Schedule}
-use Rattle.cts_model.specs.declared.schedule.Slack.{Slack}
-use Rattle.cts_model.specs.declared.tech.Tech.{Tech}
-use Rattle.cts_model.specs.placement.Points.{IsBelow}
-use Rattle.cts_model.specs.report.ReportLines.{lines_below}
-use Rattle.cts_model.specs.text.PrintedLines.{Words, text_of, count_line, register_line}
-use Rattle.cts_model.specs.timing.Schedules.{arrival_of}
+use Rattle.cts_model.specs.Vocabulary.{Circuit, Schedule, Slack, Tech, IsBelow, lines_below, Words, text_of, count_line, register_line, arrival_of}
 use Rattle.outcomes.specs.declared.scheduling.ScheduleOutcome.{ScheduleOutcome}
 use Rattle.outcomes.specs.declared.scheduling.ScheduleOutcome.TheVariants.{Found, Never}
 use Rattle.outcomes.specs.PeriodOutcomes.{BeginsLowest}

@@ -1,15 +1,7 @@
 -- What the commands `synth` and `embed` print: the report of a clock tree, or what forbids every
 -- period. Fishburn, "Clock Skew Optimization", 1990.
 use Rattle.std.specs.Prelude.{◌≡◌, ℕ, zero, suc, List}
-use Rattle.cts_model.specs.declared.circuit.Circuit.{Circuit}
-use Rattle.cts_model.specs.declared.constraint.Constraint.{Constraint}
-use Rattle.cts_model.specs.declared.problem.Problem.{Problem}
-use Rattle.cts_model.specs.declared.tech.Tech.{Tech}
-use Rattle.cts_model.specs.declared.tree.Topology.{Topology}
-use Rattle.cts_model.specs.timing.LeastPeriods.{IsForbidding}
-use Rattle.cts_model.specs.text.PrintedLines.{Words, text_of}
-use Rattle.cts_model.specs.report.ReportBounds.{IsWithinBounds}
-use Rattle.cts_model.specs.report.ReportLines.{report_lines}
+use Rattle.cts_model.specs.Vocabulary.{Circuit, Constraint, Problem, Tech, Topology, IsForbidding, Words, text_of, IsWithinBounds, report_lines}
 use Rattle.outcomes.specs.declared.synthesis.Outcome.{Outcome}
 use Rattle.outcomes.specs.declared.synthesis.Outcome.TheVariants.{Done, Never}
 use Rattle.outcomes.specs.SynthesisOutcomes.{BeginsLowest}

@@ -1,11 +1,7 @@
 -- What the command `zero` prints.
 use Rattle.std.specs.Prelude.{◌≡◌, ℕ, ◌+ℤ◌, ◌-ℤ◌, List, [], ◌∷◌, codes}
-use Rattle.cts_model.specs.declared.circuit.Circuit.{Circuit}
-use Rattle.cts_model.specs.declared.tech.Tech.{Tech}
-use Rattle.cts_model.specs.declared.timing.ZeroSkew.{ZeroSkew}
-use Rattle.cts_model.specs.declared.timing.ZeroSkew.TheVariants.{Fails, Floor, Setup}
-use Rattle.cts_model.specs.timing.EqualArrivals.{IsZeroSkew}
-use Rattle.cts_model.specs.text.PrintedLines.{Words, text_of, floor_line, constraint_line}
+use Rattle.cts_model.specs.Vocabulary.{Circuit, Tech, ZeroSkew, Fails, Setup, IsZeroSkew, Words, text_of, floor_line, constraint_line}
+use Rattle.cts_model.specs.declared.timing.ZeroSkew.TheVariants.{Floor}
 use Rattle.answer_texts.specs.PeriodTexts.{zero_line}
 
 -- what shows that no period at equal arrivals is less

@@ -1,7 +1,5 @@
 ghost use Rattle.std.specs.Prelude.{◌≡◌, IfOk};
-ghost use Rattle.cts_model.specs.declared.tech.Tech.{Tech};
-ghost use Rattle.cts_model.specs.text.PrintedLines.{text_of};
-ghost use Rattle.cts_model.specs.timing.LeastPeriods.{IsForbidding};
+ghost use Rattle.cts_model.specs.Vocabulary.{Tech, text_of, IsForbidding};
 ghost use Rattle.answer_texts.specs.Endings.{ending_status};
 ghost use Rattle.answer_texts.specs.PeriodTexts.{never_lines};
 

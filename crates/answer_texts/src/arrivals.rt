@@ -1,7 +1,7 @@
 //! The lines of a schedule alone: when the clock is to reach each register.
 
 ghost use Rattle.std.specs.Prelude.{◌≡◌, ◌<◌, ◌++◌, length, OnOk, IfOk};
-ghost use Rattle.cts_model.specs.text.PrintedLines.{line_of, text_of};
+ghost use Rattle.cts_model.specs.Vocabulary.{line_of, text_of};
 ghost use Rattle.answer_texts.specs.ArrivalTexts.{CanPrint, all_at_zero, arrival_line, arrival_lines};
 
 use cts_base::{Listed, NoMemory, push_quotient};

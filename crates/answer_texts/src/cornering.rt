@@ -3,9 +3,7 @@
 ghost use Rattle.std.specs.Prelude.{◌≡◌, ◌<◌, ◌++◌, ◌∷◌, [], pos, All, List, length, OnOk, IfOk};
 ghost use Rattle.std.specs.Fmt.{signed_decimal};
 ghost use Rattle.cts_base.specs.declared.fraction.Fraction.{Fraction};
-ghost use Rattle.cts_model.specs.declared.tech.Tech.{Tech};
-ghost use Rattle.cts_model.specs.text.PrintedLines.{constraint_line, line_of, text_of};
-ghost use Rattle.cts_model.specs.report.ReportBounds.{IsBetweenRegisters};
+ghost use Rattle.cts_model.specs.Vocabulary.{Tech, constraint_line, line_of, text_of, IsBetweenRegisters};
 ghost use Rattle.corners.specs.CornerCycles.{IsCommonShow};
 ghost use Rattle.corners.specs.CornerOutcomes.{HasSmallCommonTimes, IsCornersOutcome};
 ghost use Rattle.answer_texts.specs.Endings.{ending_status};

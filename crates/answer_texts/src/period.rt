@@ -1,9 +1,7 @@
 //! The text of the command `period`: the least period that any arrivals allow.
 
 ghost use Rattle.std.specs.Prelude.{◌≡◌, ◌++◌, OnOk, IfOk};
-ghost use Rattle.cts_model.specs.declared.tech.Tech.{Tech};
-ghost use Rattle.cts_model.specs.text.PrintedLines.{line_of, text_of};
-ghost use Rattle.cts_model.specs.timing.LeastPeriods.{IsPeriodShow};
+ghost use Rattle.cts_model.specs.Vocabulary.{Tech, line_of, text_of, IsPeriodShow};
 ghost use Rattle.outcomes.specs.PeriodOutcomes.{IsPeriodOutcome};
 ghost use Rattle.answer_texts.specs.Endings.{ending_status};
 ghost use Rattle.answer_texts.specs.PeriodTexts.{zero_line, found_lines};

@@ -1,8 +1,7 @@
 //! The text of the command `schedule`: when the clock is to reach each register.
 
 ghost use Rattle.std.specs.Prelude.{◌≡◌, IfOk};
-ghost use Rattle.cts_model.specs.declared.tech.Tech.{Tech};
-ghost use Rattle.cts_model.specs.text.PrintedLines.{text_of};
+ghost use Rattle.cts_model.specs.Vocabulary.{Tech, text_of};
 ghost use Rattle.outcomes.specs.ScheduleOutcomes.{period_outcome, HasSmallTimes, IsScheduleOutcome};
 ghost use Rattle.answer_texts.specs.Endings.{ending_status};
 ghost use Rattle.answer_texts.specs.PeriodTexts.{outcome_status};

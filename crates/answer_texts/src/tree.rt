@@ -1,8 +1,7 @@
 //! The text of the commands `synth` and `embed`: the report of a clock tree.
 
 ghost use Rattle.std.specs.Prelude.{◌≡◌, IfOk};
-ghost use Rattle.cts_model.specs.declared.tree.Topology.{Topology};
-ghost use Rattle.cts_model.specs.text.PrintedLines.{text_of};
+ghost use Rattle.cts_model.specs.Vocabulary.{Topology, text_of};
 ghost use Rattle.outcomes.specs.SynthesisOutcomes.{IsOutcomeWith};
 ghost use Rattle.answer_texts.specs.Endings.{ending_status};
 ghost use Rattle.answer_texts.specs.SynthTexts.{synthesis_lines, synthesis_status};

@@ -1,9 +1,7 @@
 //! The text of the command `zero`: the least period at equal arrivals.
 
 ghost use Rattle.std.specs.Prelude.{◌≡◌, ◌++◌, OnOk, IfOk};
-ghost use Rattle.cts_model.specs.timing.EqualArrivals.{IsZeroSkew};
-ghost use Rattle.cts_model.specs.timing.PairLists.{HasSmallDelays};
-ghost use Rattle.cts_model.specs.text.PrintedLines.{line_of, text_of};
+ghost use Rattle.cts_model.specs.Vocabulary.{IsZeroSkew, HasSmallDelays, line_of, text_of};
 ghost use Rattle.answer_texts.specs.ZeroTexts.{reason_line, zero_lines};
 
 use crate::period::push_zero;

@@ -1,6 +1,6 @@
 -- The numbers in a ring of gates are numbers of signals.
 use Rattle.bench_reader.proofs.Vocabulary.{◌≡◌, ◌<◌, ℕ, List, [], ◌∷◌, length, Option, Some, None, All, IsTrue, IsSomeAnd, Contains, refl, slice_get, slice_get_within, All-nil, All-cons, Signal, is_gate}
-use Rattle.cts_model.specs.netlist.Paths.{Reads, Follows, IsLoop}
+use Rattle.cts_model.specs.Vocabulary.{Reads, Follows, IsLoop}
 
 -- a gate that reads is one
 reads_within : (signals : List Signal) (gate read : ℕ) → Reads signals gate read

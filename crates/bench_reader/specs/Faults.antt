@@ -6,11 +6,7 @@ use Rattle.std.specs.List.{list_any, list_all}
 use Rattle.std.specs.Str.{bytes_eq}
 use Rattle.cts_base.specs.LineFormats.{first_fault}
 use Rattle.cts_base.specs.Lines.{lines_of}
-use Rattle.cts_model.specs.netlist.Definitions.{definitions_in, defined_names, register_count, gate_input_count}
-use Rattle.cts_model.specs.netlist.Kinds.{is_valid, kind_of}
-use Rattle.cts_model.specs.netlist.Netlists.{names_in, number_of}
-use Rattle.cts_model.specs.netlist.Statements.{Statement, Assign, Definition, statement_of, definition_of, names_of, uses_of}
-use Rattle.cts_model.specs.text.Names.{is_short}
+use Rattle.cts_model.specs.Vocabulary.{definitions_in, defined_names, register_count, gate_input_count, is_valid, kind_of, names_in, number_of, Statement, Assign, Definition, statement_of, definition_of, names_of, uses_of, is_short}
 use Rattle.bench_reader.specs.declared.fault.Which.{Which}
 use Rattle.bench_reader.specs.declared.fault.Which.TheVariants.{Name, Signals, Registers, Inputs}
 use Rattle.bench_reader.specs.declared.fault.BenchFault.{BenchFault}

@@ -1,7 +1,7 @@
 -- The names in a list of inputs that has its form.
 use Rattle.std.specs.Prelude.{ℕ, List, Option, Some, None}
 use Rattle.std.specs.List.{filter_map}
-use Rattle.cts_model.specs.text.Tokens.{Token, Word}
+use Rattle.cts_model.specs.Vocabulary.{Token, Word}
 
 -- the bytes of a word
 abbrev pub word_in : Token → Option (List ℕ)

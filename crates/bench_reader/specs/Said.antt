@@ -5,8 +5,8 @@ use Rattle.std.specs.Option.{option_map}
 use Rattle.std.specs.List.{cons_option}
 use Rattle.cts_base.specs.LineFormats.{first_fault}
 use Rattle.cts_base.specs.Lines.{lines_of}
-use Rattle.cts_model.specs.netlist.Netlists.{names_in}
-use Rattle.cts_model.specs.netlist.Statements.{Blank, statement_of}
+use Rattle.cts_model.specs.Vocabulary.{names_in, statement_of}
+use Rattle.cts_model.specs.netlist.Statements.{Blank}
 use Rattle.cts_model.specs.netlist.Statements as formats
 use Rattle.bench_reader.specs.declared.definitions.Definitions.{Definitions}
 use Rattle.bench_reader.specs.declared.said.Said.{Said}

@@ -1,7 +1,7 @@
 -- What is kept of names that are walked over.
 use Rattle.std.specs.Prelude.{ℕ, ◌+◌, ◌&&◌, List, length}
 use Rattle.std.specs.List.{list_all}
-use Rattle.cts_model.specs.text.Names.{is_short}
+use Rattle.cts_model.specs.Vocabulary.{is_short}
 use Rattle.bench_reader.specs.declared.tally.Tally.{Tally}
 
 -- how many names there are, and whether none is too long

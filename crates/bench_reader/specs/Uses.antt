@@ -1,8 +1,6 @@
 -- Names that the lines of a netlist use, where those that all lines define are known.
 use Rattle.std.specs.Prelude.{◌≡◌, ◌⊎◌, ℕ, List, All, IsSome}
-use Rattle.cts_model.specs.netlist.Definitions.{statements_in}
-use Rattle.cts_model.specs.netlist.Netlists.{number_of}
-use Rattle.cts_model.specs.netlist.Statements.{Statement, uses_of}
+use Rattle.cts_model.specs.Vocabulary.{statements_in, number_of, Statement, uses_of}
 use Rattle.bench_reader.specs.declared.fault.BenchFault.{BenchFault}
 use Rattle.bench_reader.specs.declared.fault.BenchFault.TheVariants.{Undefined, NoMemory}
 

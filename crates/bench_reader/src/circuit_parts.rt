@@ -2,9 +2,7 @@ ghost use Rattle.std.specs.Prelude.{◌≡◌, ◌≤◌, List, ℕ, Some, true,
 ghost use Rattle.std.specs.List.{filter_map};
 ghost use Rattle.cts_base.specs.LineFormats.{IsFaultOf, first_fault};
 ghost use Rattle.cts_base.specs.Lines.{lines_of};
-ghost use Rattle.cts_model.specs.netlist.Circuits.{registers_of};
-ghost use Rattle.cts_model.specs.netlist.Netlists.{number_of};
-ghost use Rattle.cts_model.specs.netlist.Statements.{statement_of, uses_of};
+ghost use Rattle.cts_model.specs.Vocabulary.{registers_of, number_of, statement_of, uses_of};
 ghost use Rattle.indexmap.specs.IndexSet.{insert_key};
 ghost use Rattle.bench_reader.specs.declared.fault.BenchFault.{BenchFault};
 ghost use Rattle.bench_reader.specs.Faults.{has_kind, use_fault};

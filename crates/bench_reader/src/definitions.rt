@@ -1,7 +1,6 @@
 ghost use Rattle.std.specs.Prelude.{◌≡◌, ◌≤◌, ◌+◌, List, ℕ, [], ◌∷◌, ◌++◌, None, Some, length, MatchResult, if◌then◌else◌};
 ghost use Rattle.cts_base.specs.LineFormats.{IsFaultOf};
-ghost use Rattle.cts_model.specs.netlist.Kinds.{is_register, is_gate};
-ghost use Rattle.cts_model.specs.netlist.Statements.{statement_of};
+ghost use Rattle.cts_model.specs.Vocabulary.{is_register, is_gate, statement_of};
 ghost use Rattle.bench_reader.specs.Faults.{fault_of};
 ghost use Rattle.bench_reader.specs.declared.fault.BenchFault.{BenchFault};
 ghost use Rattle.bench_reader.specs.declared.fault.Which.{Which};

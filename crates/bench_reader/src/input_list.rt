@@ -2,9 +2,7 @@ ghost use Rattle.std.specs.Prelude.{◌≡◌, ◌<◌, ◌+◌, ◌^◌, ℕ, L
 ghost use Rattle.std.specs.Iterator.{YieldsFirstRef, item_count};
 ghost use Rattle.std.specs.List.{list_all};
 ghost use Rattle.std.specs.Option.{option_map};
-ghost use Rattle.cts_model.specs.text.Names.{is_short};
-ghost use Rattle.cts_model.specs.text.Tokens.{tokens_of};
-ghost use Rattle.cts_model.specs.netlist.Statements.{inputs_of, more_inputs_of};
+ghost use Rattle.cts_model.specs.Vocabulary.{is_short, tokens_of, inputs_of, more_inputs_of};
 ghost use Rattle.bench_reader.specs.Inputs.{words_in};
 ghost use Rattle.bench_reader.specs.Tallies.{tally_of, with_names};
 

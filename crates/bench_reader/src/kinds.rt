@@ -1,5 +1,5 @@
 ghost use Rattle.std.specs.Prelude.{◌≡◌};
-ghost use Rattle.cts_model.specs.netlist.Kinds.{kind_of, is_valid};
+ghost use Rattle.cts_model.specs.Vocabulary.{kind_of, is_valid};
 
 use cts_model::Kind;
 

@@ -1,5 +1,5 @@
 ghost use Rattle.std.specs.Prelude.{◌≡◌, ◌<◌, ◌+◌, ◌^◌, [], ◌∷◌};
-ghost use Rattle.cts_model.specs.text.Names.{is_short};
+ghost use Rattle.cts_model.specs.Vocabulary.{is_short};
 ghost use Rattle.bench_reader.specs.Tallies.{tally_of, with_names};
 
 // The longest that a name may be.

@@ -2,8 +2,7 @@ ghost use Rattle.std.specs.Prelude.{◌≡◌, ◌≤◌, ◌<◌, List, ◌∷�
 ghost use Rattle.std.specs.List.{prefix_len};
 ghost use Rattle.std.specs.Iterator.{YieldsFirstBy, YieldsFirstRef, item_count};
 ghost use Rattle.cts_base.specs.Words.{is_blank};
-ghost use Rattle.cts_model.specs.text.Names.{is_name_byte};
-ghost use Rattle.cts_model.specs.text.Tokens.{tokens_of, mark_of};
+ghost use Rattle.cts_model.specs.Vocabulary.{is_name_byte, tokens_of, mark_of};
 ghost use Rattle.cts_model.specs.text.Tokens as format;
 ghost use Rattle.bench_reader.specs.Inputs.{words_in};
 ghost use Rattle.bench_reader.specs.View.{token_of};

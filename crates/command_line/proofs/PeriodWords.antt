@@ -14,7 +14,7 @@ use Rattle.cts_base.proofs.GreatestDivisors.{quotient_text_is, up_to_second}
 use Rattle.cts_base.proofs.OneNumberText.{AreDigits, decimal_digits}
 use Rattle.cts_base.proofs.Quotients.{lowest_quotients}
 use Rattle.cts_model.proofs.ScaleLemmas.{size_same}
-use Rattle.cts_model.specs.timing.Schedules.{IsMarginPeriod}
+use Rattle.cts_model.specs.Vocabulary.{IsMarginPeriod}
 
 -- ---- quotients
 

@@ -4,7 +4,7 @@
 ghost use Rattle.std.specs.Prelude.{◌≡◌, ◌↔◌, ◌||◌, map, string_bytes, IsTrue, IfSome, IsNone};
 ghost use Rattle.std.specs.Char.{is_ascii_digit};
 ghost use Rattle.std.specs.List.{list_all};
-ghost use Rattle.cts_model.specs.timing.Schedules.{IsMarginPeriod};
+ghost use Rattle.cts_model.specs.Vocabulary.{IsMarginPeriod};
 ghost use Rattle.command_line.specs.declared.command.Command.{Command};
 ghost use Rattle.command_line.specs.CommandTable.{is_required, takes_tables};
 ghost use Rattle.command_line.specs.Commands.{is_file_name, is_number_within, is_period, is_value, is_taken, IsCommand, are_tables};

@@ -2,7 +2,7 @@
 use Rattle.std.proofs.Common.{ℕ, ◌+◌, ◌≤◌, ℤ, pos, ◌+ℤ◌, ◌-ℤ◌, ◌*ℤ◌, ◌≤ℤ◌, arith}
 use Rattle.std.proofs.Math.Nat.{mul-le-mul_left}
 use Rattle.std.proofs.lemmas.Int.{ints}
-use Rattle.cts_model.specs.timing.Timing.{MeetsSetup, MeetsHold}
+use Rattle.cts_model.specs.Vocabulary.{MeetsSetup, MeetsHold}
 use borrow.Author.Differences.{up, down}
 
 -- what holds at the greatest delay holds at any

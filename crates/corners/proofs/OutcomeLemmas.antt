@@ -1,9 +1,7 @@
 -- From the least period of the combined list to the outcome of the circuit in all corners.
 use Rattle.corners.proofs.Vocabulary.{◌≡◌, ℕ, ℤ, pos, ◌*ℤ◌, ◌≤ℤ◌, ◌<ℤ◌, List, [], get_or, Option, Some, None, refl, subst, arith, IsSomeAnd, nat_abs, slice_get, ints, All-contains_itself, All-from_get_or, All-weaker, get_or_from_slice_get, slice_get_within, Circuit, Constraint, Tech, IsConstraintOf, IsSatisfied, Satisfies, scale_le, size_same, IsSmallFloor, Combined, AreLeastCommonArrivals, HasNoCommonPeriod, IsAboveFloors, IsCommonPeriod, IsLeastCommonPeriod, MeetsEach, AreCommonConstraints, IsGreatestOf, AreOfCorners, IsCommonCritical, IsCommonForbidding, IsGreatestFloor, no_constraint, constraint_at, AreNamedAt}
 use Rattle.cts_base.specs.declared.fraction.Fraction.{Fraction}
-use Rattle.cts_model.specs.timing.Timing.{Meets}
-use Rattle.cts_model.specs.timing.Cycles.{AdmitsPeriod, IsLeastPeriodOf}
-use Rattle.cts_model.specs.timing.Schedules.{IsSmallPeriod, arrival_of}
+use Rattle.cts_model.specs.Vocabulary.{Meets, AdmitsPeriod, IsLeastPeriodOf, IsSmallPeriod, arrival_of}
 use Rattle.cts_model.proofs.CircuitConstraints.{met_constraint}
 use Rattle.cts_model.proofs.CycleLemmas.{forbidden_at_all}
 use Rattle.critical_cycle.specs.Periods.{IsForbidden, IsShownPeriod}

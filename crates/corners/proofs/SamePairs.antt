@@ -1,8 +1,7 @@
 -- Two lists of the joined pairs of one circuit name the same pairs in the same order, whatever the
 -- delays are.
 use Rattle.corners.proofs.Vocabulary.{◌≡◌, ◌<◌, ◌≤◌, ◌∙◌, ℕ, zero, suc, pos, List, length, get_or, inl, inr, sym, ap, arith, cases_lt, get_or_default, Circuit, Tech, PairDelay}
-use Rattle.cts_model.specs.timing.EqualArrivals.{ComesBefore}
-use Rattle.cts_model.specs.timing.PairLists.{AreOrdered, ListsPairs}
+use Rattle.cts_model.specs.Vocabulary.{ComesBefore, AreOrdered, ListsPairs}
 
 -- what is read past the end of a list
 abbrev pub no_pair : PairDelay

@@ -1,13 +1,7 @@
 -- The constraints of one circuit by the table of each corner, and the combined list of them.
 -- Fishburn, "Clock Skew Optimization", 1990.
 use Rattle.std.specs.Prelude.{◌≡◌, ◌<◌, ◌↔◌, ℕ, ℤ, ◌≤ℤ◌, List, length, All, Any}
-use Rattle.cts_model.specs.declared.circuit.Circuit.{Circuit}
-use Rattle.cts_model.specs.declared.constraint.Constraint.{Constraint}
-use Rattle.cts_model.specs.declared.tech.Tech.{Tech}
-use Rattle.cts_model.specs.declared.timing.PairDelay.{PairDelay}
-use Rattle.cts_model.specs.timing.Constraints.{AreSmallConstraints, IsConstraintOf, Satisfies}
-use Rattle.cts_model.specs.timing.PairLists.{ListsPairs}
-use Rattle.cts_model.specs.timing.Timing.{Meets}
+use Rattle.cts_model.specs.Vocabulary.{Circuit, Constraint, Tech, PairDelay, AreSmallConstraints, IsConstraintOf, Satisfies, ListsPairs, Meets}
 use Rattle.constraints.specs.PairConstraints.{constraints_of_pairs}
 use Rattle.corners.specs.declared.fold.Combined.{Combined}
 use Rattle.corners.specs.CommonPeriods.{MeetsEach}

@@ -2,13 +2,7 @@
 -- all of them, or what forbids every period. Fishburn, "Clock Skew Optimization", 1990.
 use Rattle.std.specs.Prelude.{◌^◌, ℕ, List, All}
 use Rattle.cts_base.specs.declared.fraction.Fraction.{Fraction}
-use Rattle.cts_model.specs.declared.circuit.Circuit.{Circuit}
-use Rattle.cts_model.specs.declared.period.PeriodShow.{PeriodShow}
-use Rattle.cts_model.specs.declared.period.PeriodShow.TheVariants.{Cycle, Floor}
-use Rattle.cts_model.specs.declared.schedule.Schedule.{Schedule}
-use Rattle.cts_model.specs.declared.tech.Tech.{Tech}
-use Rattle.cts_model.specs.placement.Points.{IsBelow}
-use Rattle.cts_model.specs.timing.Schedules.{IsSmallPeriod}
+use Rattle.cts_model.specs.Vocabulary.{Circuit, PeriodShow, Cycle, Floor, Schedule, Tech, IsBelow, IsSmallPeriod}
 use Rattle.critical_cycle.specs.CyclePlaces.{IsFromLowest}
 use Rattle.corners.specs.declared.outcome.CornersOutcome.{CornersOutcome}
 use Rattle.corners.specs.declared.outcome.CornersOutcome.TheVariants.{Found, Never}

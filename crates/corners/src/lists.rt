@@ -1,5 +1,5 @@
 ghost use Rattle.std.specs.Prelude.{◌≡◌, ◌<◌, ◌↔◌, ℕ, ℤ, All, IfOk, length};
-ghost use Rattle.cts_model.specs.timing.Constraints.{Satisfies, AreSmallConstraints};
+ghost use Rattle.cts_model.specs.Vocabulary.{Satisfies, AreSmallConstraints};
 ghost use Rattle.corners.specs.CornerLists.{AreCorners};
 ghost use Rattle.corners.specs.GreatestWeights.{IsCombinedAt};
 

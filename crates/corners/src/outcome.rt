@@ -1,6 +1,5 @@
 ghost use Rattle.std.specs.Prelude.{◌≤◌, ◌↔◌, ℕ, List, IfOk, IfErr, length};
-ghost use Rattle.cts_model.specs.timing.PairLists.{JoinsMoreThan};
-ghost use Rattle.cts_model.specs.netlist.Paths.{IsLoop};
+ghost use Rattle.cts_model.specs.Vocabulary.{JoinsMoreThan, IsLoop};
 ghost use Rattle.critical_cycle.specs.Floors.{IsSmallFloor};
 ghost use Rattle.path_delays.specs.JoinedPairs.{ShowsTooMany};
 ghost use Rattle.corners.specs.CommonPeriods.{HasNoCommonPeriod};

@@ -1,10 +1,7 @@
 //! `cts_synth`: the clock tree of a problem.
 
 ghost use Rattle.std.specs.Prelude.{◌≡◌, ◌≢◌, ℕ, List, IfOk, IfErr};
-ghost use Rattle.cts_model.specs.declared.problem.Problem.{Problem};
-ghost use Rattle.cts_model.specs.declared.tree.Topology.{Topology};
-ghost use Rattle.cts_model.specs.text.PrintedLines.{text_of};
-ghost use Rattle.cts_model.specs.timing.PairLists.{JoinsMoreThan};
+ghost use Rattle.cts_model.specs.Vocabulary.{Problem, Topology, text_of, JoinsMoreThan};
 ghost use Rattle.outcomes.specs.SynthesisOutcomes.{IsOutcomeWith};
 ghost use Rattle.cts_engine.specs.Accepted.{TellAll};
 ghost use Rattle.cts_c.specs.Buffers.{IsHanded, IsTooLarge, IsNone};

@@ -3,7 +3,7 @@
 use Rattle.cts_engine.proofs.Vocabulary.{ℕ, ◌≡◌, ◌⊎◌, inl, inr, Bool, true, false, ◌==◌, List, length, Result, Ok, Err, IfOk, IfErr, refl, ap, sym, ◌∙◌, subst, Circuit, Places, Problem, Signal, Tech, AcceptsTable, IsWithHost, IsProblem, AreUsedKinds, not_both, one_value, AcceptsNetlist, TechFault, PlaceFault, AcceptsPlacement, Refusal, IsHostedBy, TellsDelays, TellBoth, TellAll, IsTableOf, IsPlacementOf, HasTableFault, HasPlacesFault, IsRefusal}
 use Rattle.std.proofs.Common.{MatchBool}
 use Rattle.std.proofs.Props.{props}
-use Rattle.cts_model.specs.netlist.Netlists.{signals_of}
+use Rattle.cts_model.specs.Vocabulary.{signals_of}
 use Rattle.cts_model.proofs.OneRecord.{same_circuit, one_use}
 use Rattle.bench_reader.proofs.OneFault.{no_fault}
 use Rattle.delay_tables.specs.Refusals.{RefusesTable}

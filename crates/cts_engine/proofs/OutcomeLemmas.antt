@@ -1,6 +1,6 @@
 -- From the least period of a circuit's constraints to the outcome of the circuit.
 use Rattle.cts_engine.proofs.Vocabulary.{◌≡◌, ◌↔◌, ℕ, ℤ, pos, ◌*ℤ◌, ◌≤ℤ◌, List, arith, nat_abs, ints, Fraction, Circuit, Tech, Constraint, Cycle, IsConstraintOf, IsLeastPeriodOf, AreLeastArrivals, IsLeastScheduleOf, IsForbidding, IsPeriodShow, HasNoPeriod, Found, Never, AreConstraintsOf, constraints_at}
-use Rattle.cts_model.specs.timing.Timing.{IsLeastPeriod}
+use Rattle.cts_model.specs.Vocabulary.{IsLeastPeriod}
 use Rattle.cts_model.proofs.CircuitConstraints.{forbidding_at_all}
 use Rattle.outcomes.specs.declared.period.PeriodOutcome.{PeriodOutcome}
 use Rattle.outcomes.specs.PeriodOutcomes.{IsPeriodOutcome, IsNeverOutcome}

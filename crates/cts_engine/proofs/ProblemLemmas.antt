@@ -9,8 +9,7 @@ use Rattle.cts_base.specs.Decimals.{micros_of}
 use Rattle.cts_base.specs.Lines.{lines_of}
 use Rattle.cts_base.specs.declared.number.NumberFault.{NumberFault}
 use Rattle.cts_base.proofs.Micros.{micros_within}
-use Rattle.cts_model.specs.placement.Coordinates.{point_from, point_of}
-use Rattle.cts_model.specs.placement.PlaceLines.{Node, Entry, Blank, Header, Stands, entry_after}
+use Rattle.cts_model.specs.Vocabulary.{point_from, point_of, Node, Entry, Blank, Header, Stands, entry_after}
 use Rattle.cts_model.proofs.HostedCircuits.{has_host-with_host}
 use Rattle.place_reader.proofs.TellsPlaces.{accepted_gives}
 

@@ -1,6 +1,6 @@
 -- How far drawn wires go, and how long they are together.
 use Rattle.cts_engine.proofs.Vocabulary.{◌≡◌, ◌<◌, ◌-◌, ◌*◌, ◌^◌, ℕ, zero, suc, ℤ, pos, ◌+ℤ◌, ◌≤ℤ◌, ◌<ℤ◌, List, [], ◌∷◌, length, get_or, subst, arith, All, ints, clamps, get_or_from_slice_get, Point, IsBelow, IsPointBelow, distance, distance_by_way, distance-itself}
-use Rattle.cts_model.specs.tree.DrawnWires.{IsDrawn, pieces, total}
+use Rattle.cts_model.specs.Vocabulary.{IsDrawn, pieces, total}
 
 -- ---- points of a wire
 

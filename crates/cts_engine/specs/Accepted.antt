@@ -1,14 +1,8 @@
 -- What the texts of a problem tell: a circuit, its delays and its places, or why one of them is
 -- refused. The netlist comes first, then the delay table and then the placement.
 use Rattle.std.specs.Prelude.{◌≡◌, ◌≢◌, ◌==◌, ℕ, Bool, List, length, MatchBool}
-use Rattle.cts_model.specs.declared.circuit.Circuit.{Circuit}
-use Rattle.cts_model.specs.declared.problem.Problem.{Problem}
-use Rattle.cts_model.specs.declared.signal.Signal.{Signal}
-use Rattle.cts_model.specs.declared.tech.Tech.{Tech}
+use Rattle.cts_model.specs.Vocabulary.{Circuit, Problem, Signal, Tech, IsWithHost, signals_of, AreUsedKinds}
 use Rattle.cts_model.specs.table.AcceptedTables.{IsDelayTable, AcceptsTable}
-use Rattle.cts_model.specs.netlist.Hosts.{IsWithHost}
-use Rattle.cts_model.specs.netlist.Netlists.{signals_of}
-use Rattle.cts_model.specs.netlist.UsedKinds.{AreUsedKinds}
 use Rattle.bench_reader.specs.declared.fault.BenchFault.{BenchFault}
 use Rattle.bench_reader.specs.declared.fault.BenchFault.TheVariants as bench
 use Rattle.bench_reader.specs.Netlists.{IsNetlist, AcceptsNetlist, RefusesNetlist}

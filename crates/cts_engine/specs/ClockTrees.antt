@@ -1,15 +1,6 @@
 -- The tree of a report, with what keeps its numbers within the bounds of a report.
 use Rattle.std.specs.Prelude.{◌≡◌, ◌+◌, ◌*◌, ◌^◌, ℕ, ℤ, List, All, length}
-use Rattle.cts_model.specs.declared.place.Sink.{Sink}
-use Rattle.cts_model.specs.declared.place.Uv.{Uv}
-use Rattle.cts_model.specs.declared.tree.Merge.{Merge}
-use Rattle.cts_model.specs.declared.tree.Show.{Show}
-use Rattle.cts_model.specs.declared.tree.Tree.{Tree}
-use Rattle.cts_model.specs.declared.tree.Wire.{Wire}
-use Rattle.cts_model.specs.placement.Points.{IsBelow}
-use Rattle.cts_model.specs.report.ReportBounds.{IsSmallWire}
-use Rattle.cts_model.specs.tree.Embeddings.{IsLeastWire, embedding_of, total_wire}
-use Rattle.cts_model.specs.tree.Topologies.{IsTopology}
+use Rattle.cts_model.specs.Vocabulary.{Sink, Uv, Merge, Show, Tree, Wire, IsBelow, IsSmallWire, IsLeastWire, embedding_of, total_wire, IsTopology}
 use Rattle.place_down.specs.Trees.{HasTreeNumbers, IsPlacedTree}
 use Rattle.cts_engine.specs.TreeParts.{AreDrawn}
 use Rattle.cts_engine.specs.declared.clock_tree.ClockTree.{ClockTree}

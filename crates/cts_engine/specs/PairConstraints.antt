@@ -1,12 +1,6 @@
 -- What the delays of all joined pairs ask of the arrivals of a circuit.
 use Rattle.std.specs.Prelude.{◌↔◌, ℕ, ℤ, List, All}
-use Rattle.cts_model.specs.declared.circuit.Circuit.{Circuit}
-use Rattle.cts_model.specs.declared.tech.Tech.{Tech}
-use Rattle.cts_model.specs.declared.timing.PairDelay.{PairDelay}
-use Rattle.cts_model.specs.declared.constraint.Constraint.{Constraint}
-use Rattle.cts_model.specs.netlist.Paths.{IsPath}
-use Rattle.cts_model.specs.timing.Timing.{Meets}
-use Rattle.cts_model.specs.timing.Constraints.{IsConstraintOf, Satisfies}
+use Rattle.cts_model.specs.Vocabulary.{Circuit, Tech, PairDelay, Constraint, IsPath, Meets, IsConstraintOf, Satisfies}
 use Rattle.path_delays.specs.JoinedPairs.{IsDelayBetween}
 
 -- constraints of the circuit, and whoever satisfies them meets the period over every path

@@ -2,16 +2,7 @@
 -- Optimization", 1990.
 use Rattle.std.specs.Prelude.{◌≡◌, ◌≤◌, ℕ, ℤ, List, length}
 use Rattle.cts_base.specs.declared.fraction.Fraction.{Fraction}
-use Rattle.cts_model.specs.declared.circuit.Circuit.{Circuit}
-use Rattle.cts_model.specs.declared.constraint.Constraint.{Constraint}
-use Rattle.cts_model.specs.declared.period.PeriodShow.{PeriodShow}
-use Rattle.cts_model.specs.declared.tech.Tech.{Tech}
-use Rattle.cts_model.specs.timing.ConstraintPaths.{ArePathsOf}
-use Rattle.cts_model.specs.timing.Constraints.{AreSmallConstraints, IsConstraintOf}
-use Rattle.cts_model.specs.timing.Leads.{EachLead, depth_of, lead_at}
-use Rattle.cts_model.specs.timing.LeastPeriods.{IsForbidding, IsLeastFraction, IsPeriodShow}
-use Rattle.cts_model.specs.timing.Schedules.{IsLeastSchedule, IsSmallPeriod, arrival_of}
-use Rattle.cts_model.specs.timing.Slacks.{AreSlacks}
+use Rattle.cts_model.specs.Vocabulary.{Circuit, Constraint, PeriodShow, Tech, ArePathsOf, AreSmallConstraints, IsConstraintOf, EachLead, depth_of, lead_at, IsForbidding, IsLeastFraction, IsPeriodShow, IsLeastSchedule, IsSmallPeriod, arrival_of, AreSlacks}
 use Rattle.cts_model.specs.table.Tables.{IsWithin}
 use Rattle.critical_cycle.specs.CyclePlaces.{IsFromLowest}
 use Rattle.outcomes.specs.ShownCycles.{ShowsFromLowest}

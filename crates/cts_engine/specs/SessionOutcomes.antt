@@ -3,16 +3,7 @@
 -- Kahng 1992; Chao and others 1992.
 use Rattle.std.specs.Prelude.{◌≡◌, ◌^◌, ℤ, List, length}
 use Rattle.cts_base.specs.declared.fraction.Fraction.{Fraction}
-use Rattle.cts_model.specs.declared.place.Point.{Point}
-use Rattle.cts_model.specs.declared.problem.Problem.{Problem}
-use Rattle.cts_model.specs.declared.schedule.Schedule.{Schedule}
-use Rattle.cts_model.specs.declared.tech.Tech.{Tech}
-use Rattle.cts_model.specs.declared.tree.Merge.{Merge}
-use Rattle.cts_model.specs.tree.GreedyMerges.{IsGreedy}
-use Rattle.cts_model.specs.timing.LeastPeriods.{IsForbidding, IsLeastFraction}
-use Rattle.cts_model.specs.placement.Points.{rotated}
-use Rattle.cts_model.specs.tree.Problems.{grid_of, on_grid, sinks_of}
-use Rattle.cts_model.specs.timing.Schedules.{IsLeastSchedule}
+use Rattle.cts_model.specs.Vocabulary.{Point, Problem, Schedule, Tech, Merge, IsGreedy, IsForbidding, IsLeastFraction, rotated, grid_of, on_grid, sinks_of, IsLeastSchedule}
 use Rattle.cts_model.specs.table.Tables.{IsWithin}
 use Rattle.critical_cycle.specs.CyclePlaces.{IsFromLowest}
 use Rattle.move_session.specs.Sessions.{SessionState, StandsFor}

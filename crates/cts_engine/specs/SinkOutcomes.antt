@@ -1,11 +1,7 @@
 -- What a problem asks of a tree over its registers: the sinks whose offsets are the least schedule
 -- at the least period, or what forbids every period. Fishburn, "Clock Skew Optimization", 1990.
 use Rattle.std.specs.Prelude.{◌≡◌, List, length}
-use Rattle.cts_model.specs.declared.constraint.Constraint.{Constraint}
-use Rattle.cts_model.specs.declared.problem.Problem.{Problem}
-use Rattle.cts_model.specs.timing.LeastPeriods.{IsForbidding}
-use Rattle.cts_model.specs.tree.Problems.{sinks_of}
-use Rattle.cts_model.specs.tree.Sinks.{AreTreeSinks}
+use Rattle.cts_model.specs.Vocabulary.{Constraint, Problem, IsForbidding, sinks_of, AreTreeSinks}
 use Rattle.critical_cycle.specs.CyclePlaces.{IsFromLowest}
 use Rattle.cts_engine.specs.declared.sink_times.SinkOutcome.{SinkOutcome}
 use Rattle.cts_engine.specs.declared.sink_times.SinkOutcome.TheVariants.{Found, Never}

@@ -1,14 +1,6 @@
 -- The parts of a tree's report, as they come one after the other.
 use Rattle.std.specs.Prelude.{◌≡◌, ◌<◌, ◌*◌, ◌^◌, ℕ, ℤ, pos, ◌≤ℤ◌, ◌<ℤ◌, List, length, take, slice_set}
-use Rattle.cts_model.specs.declared.place.Point.{Point}
-use Rattle.cts_model.specs.declared.tree.Merge.{Merge}
-use Rattle.cts_model.specs.declared.tree.Tree.{Tree}
-use Rattle.cts_model.specs.declared.tree.Wire.{Wire}
-use Rattle.cts_model.specs.tree.DrawnWires.{IsDrawn}
-use Rattle.cts_model.specs.tree.Embeddings.{Embedding, embedding_of}
-use Rattle.cts_model.specs.placement.Points.{IsMultipleOf, IsPointBelow, distance}
-use Rattle.cts_model.specs.report.ReportBounds.{IsSmallWire}
-use Rattle.cts_model.specs.tree.Topologies.{IsParent}
+use Rattle.cts_model.specs.Vocabulary.{Point, Merge, Tree, Wire, IsDrawn, Embedding, embedding_of, IsMultipleOf, IsPointBelow, distance, IsSmallWire, IsParent}
 use Rattle.wire_detours.specs.WirePoints.{ArePoints}
 use Rattle.outcomes.specs.Syntheses.{EachEdge}
 

@@ -1,9 +1,5 @@
 ghost use Rattle.std.specs.Prelude.{◌≡◌, ◌≢◌, ◌≤◌, ◌↔◌, ◌⊎◌, Bool, IsTrue, List, [], length, Ok, Err, IfOk, IfErr};
-ghost use Rattle.cts_model.specs.declared.problem.Problem.{Problem};
-ghost use Rattle.cts_model.specs.netlist.Circuits.{has_host};
-ghost use Rattle.cts_model.specs.netlist.Hosts.{HasNoHost};
-ghost use Rattle.cts_model.specs.netlist.UsedKinds.{AreUsedKinds};
-ghost use Rattle.cts_model.specs.tree.Problems.{GivesUsedKinds};
+ghost use Rattle.cts_model.specs.Vocabulary.{Problem, has_host, HasNoHost, AreUsedKinds, GivesUsedKinds};
 ghost use Rattle.delay_tables.specs.Refusals.{RefusesTable};
 ghost use Rattle.cts_engine.specs.Accepted.{IsHostedBy, TellsDelays, TellBoth, TellAll, IsCircuitRefusal, IsRefusal};
 

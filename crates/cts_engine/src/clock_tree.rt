@@ -1,6 +1,5 @@
 ghost use Rattle.std.specs.Prelude.{IfOk, length};
-ghost use Rattle.cts_model.specs.tree.Sinks.{AreTreeSinks};
-ghost use Rattle.cts_model.specs.tree.Topologies.{IsTopology};
+ghost use Rattle.cts_model.specs.Vocabulary.{AreTreeSinks, IsTopology};
 ghost use Rattle.place_down.specs.Trees.{IsTreeSource};
 ghost use Rattle.cts_engine.specs.ClockTrees.{IsClockTree, IsMadeTree};
 

@@ -1,6 +1,5 @@
 ghost use Rattle.std.specs.Prelude.{IfOk};
-ghost use Rattle.cts_model.specs.timing.ConstraintPaths.{ArePathsOf};
-ghost use Rattle.cts_model.specs.timing.Constraints.{IsConstraintOf};
+ghost use Rattle.cts_model.specs.Vocabulary.{ArePathsOf, IsConstraintOf};
 ghost use Rattle.cts_engine.specs.CyclePaths.{IsShownBy};
 
 use cts_base::{Listed, NoMemory};

@@ -1,7 +1,5 @@
 ghost use Rattle.std.specs.Prelude.{◌↔◌, ℕ, List, IfOk, IfErr};
-ghost use Rattle.cts_model.specs.timing.PairLists.{JoinsMoreThan};
-ghost use Rattle.cts_model.specs.netlist.Paths.{IsLoop};
-ghost use Rattle.cts_model.specs.timing.Schedules.{IsMarginPeriod};
+ghost use Rattle.cts_model.specs.Vocabulary.{JoinsMoreThan, IsLoop, IsMarginPeriod};
 ghost use Rattle.outcomes.specs.CircuitMargins.{HasNoPath, IsMarginOutcome, IsSmallOutcome, IsUnboundedOutcome};
 ghost use Rattle.path_delays.specs.JoinedPairs.{ShowsTooMany};
 

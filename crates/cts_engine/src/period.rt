@@ -1,7 +1,5 @@
 ghost use Rattle.std.specs.Prelude.{◌≡◌, ◌↔◌, ℕ, List, IfOk, IfErr};
-ghost use Rattle.cts_model.specs.timing.LeastPeriods.{HasNoPeriod};
-ghost use Rattle.cts_model.specs.timing.PairLists.{JoinsMoreThan};
-ghost use Rattle.cts_model.specs.netlist.Paths.{IsLoop};
+ghost use Rattle.cts_model.specs.Vocabulary.{HasNoPeriod, JoinsMoreThan, IsLoop};
 ghost use Rattle.critical_cycle.specs.CyclePlaces.{AreWithin, constraints_at};
 ghost use Rattle.path_delays.specs.JoinedPairs.{ArePairs, ShowsTooMany};
 ghost use Rattle.outcomes.specs.PeriodOutcomes.{BeginsLowest, HasSmallZero, IsNeverOutcome, IsPeriodOutcome};

@@ -1,14 +1,6 @@
 ghost use Rattle.std.specs.Prelude.{◌≡◌, ◌≤◌, ◌<◌, ◌^◌, ◌↔◌, List, length, slice_set, unsigned_abs, IfOk, IfErr};
 ghost use Rattle.cts_base.specs.declared.fraction.Fraction.{Fraction};
-ghost use Rattle.cts_model.specs.declared.place.Point.{Point};
-ghost use Rattle.cts_model.specs.declared.problem.Problem.{Problem};
-ghost use Rattle.cts_model.specs.declared.schedule.Schedule.{Schedule};
-ghost use Rattle.cts_model.specs.declared.tech.Tech.{Tech};
-ghost use Rattle.cts_model.specs.declared.tree.Merge.{Merge};
-ghost use Rattle.cts_model.specs.timing.LeastPeriods.{HasNoPeriod};
-ghost use Rattle.cts_model.specs.timing.PairLists.{JoinsMoreThan};
-ghost use Rattle.cts_model.specs.placement.Points.{IsPointBelow, IsUvBelow, IsUvMultipleOf, rotated};
-ghost use Rattle.cts_model.specs.tree.Problems.{grid_of, on_grid, steps_of_micro};
+ghost use Rattle.cts_model.specs.Vocabulary.{Point, Problem, Schedule, Tech, Merge, HasNoPeriod, JoinsMoreThan, IsPointBelow, IsUvBelow, IsUvMultipleOf, rotated, grid_of, on_grid, steps_of_micro};
 ghost use Rattle.path_delays.specs.JoinedPairs.{ShowsTooMany};
 ghost use Rattle.cts_engine.specs.SessionOutcomes.{ForbidsFromLowest, HasSmallGrid, IsGrid, IsNeverSession, IsSessionOutcome, StandsAt};
 

@@ -1,8 +1,5 @@
 ghost use Rattle.std.specs.Prelude.{◌≡◌, ◌↔◌, IfOk, IfErr, length};
-ghost use Rattle.cts_model.specs.timing.LeastPeriods.{HasNoPeriod};
-ghost use Rattle.cts_model.specs.timing.PairLists.{JoinsMoreThan};
-ghost use Rattle.cts_model.specs.report.Shown.{sinks_in};
-ghost use Rattle.cts_model.specs.tree.Topologies.{IsTopology};
+ghost use Rattle.cts_model.specs.Vocabulary.{HasNoPeriod, JoinsMoreThan, sinks_in, IsTopology};
 ghost use Rattle.path_delays.specs.JoinedPairs.{ShowsTooMany};
 ghost use Rattle.cts_engine.specs.SinkOutcomes.{AreTimedSinks};
 ghost use Rattle.outcomes.specs.Syntheses.{IsReportWith};

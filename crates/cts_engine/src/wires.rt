@@ -1,7 +1,5 @@
 ghost use Rattle.std.specs.Prelude.{◌≡◌, ◌<◌, ◌≤◌, ◌+◌, ◌*◌, All, IfOk, length};
-ghost use Rattle.cts_model.specs.tree.Embeddings.{embedding_of};
-ghost use Rattle.cts_model.specs.report.ReportBounds.{IsSmallWire};
-ghost use Rattle.cts_model.specs.tree.Topologies.{IsTopology};
+ghost use Rattle.cts_model.specs.Vocabulary.{embedding_of, IsSmallWire, IsTopology};
 ghost use Rattle.cts_engine.specs.TreeParts.{AreDrawn, CanDraw, CanDrawEdge, IsEdgeDrawn};
 
 use cts_base::{Listed, NoMemory};

@@ -1,7 +1,5 @@
 ghost use Rattle.std.specs.Prelude.{ℕ, List, IfOk, IfErr};
-ghost use Rattle.cts_model.specs.timing.EqualArrivals.{IsZeroSkew};
-ghost use Rattle.cts_model.specs.timing.PairLists.{HasSmallDelays, JoinsMoreThan};
-ghost use Rattle.cts_model.specs.netlist.Paths.{IsLoop};
+ghost use Rattle.cts_model.specs.Vocabulary.{IsZeroSkew, HasSmallDelays, JoinsMoreThan, IsLoop};
 ghost use Rattle.path_delays.specs.JoinedPairs.{ShowsTooMany};
 
 use crate::SynthFault;

@@ -1,8 +1,7 @@
 -- What is judged of a report's timing, place by place, is what the report says of it.
 use Rattle.cts_model.proofs.Vocabulary.{◌≡◌, ◌⊎◌, ℕ, List, [], ◌∷◌, length, Option, Some, None, inl, inr, refl, ap, subst, arith, IfSome, nat_abs, All, get_or_from_slice_get, slice_get_within, Fraction, Circuit, Constraint, PeriodShow, Cycle, Floor, Report, Tech, IsConstraintOf, GivesPeriod, HoldsTogether, IsOfCircuit, ShowsLeads, ShowsTiming, IsPeriodShown, arrival_of, AtEach, IsShownLeast, IsShownTiming, cycle_of}
 use Rattle.std.specs.Prelude.{◌≢◌, slice_get}
-use Rattle.cts_model.specs.timing.ConstraintPaths.{GivesWeight}
-use Rattle.cts_model.specs.timing.Slacks.{IsSlack}
+use Rattle.cts_model.specs.Vocabulary.{GivesWeight, IsSlack}
 use Rattle.cts_model.proofs.RoundLemmas.{cycle_holds_together, round_is_cycle}
 use Rattle.cts_model.proofs.ShownTimings.{all_of_circuit, shown_meets}
 

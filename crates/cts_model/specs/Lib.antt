@@ -5,3 +5,6 @@ pub mod placement
 pub mod timing
 pub mod tree
 pub mod report
+pub mod Vocabulary
+pub mod Types
+pub mod Terms

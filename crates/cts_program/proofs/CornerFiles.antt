@@ -1,6 +1,6 @@
 -- The delay tables of corners, which are read one after the other.
 use Rattle.cts_program.proofs.Vocabulary.{◌≡◌, ◌<◌, ◌≤◌, ◌+◌, ℕ, suc, List, [], ◌∷◌, ◌++◌, length, map, take, drop, drop-cons, get_or, String, Global, string_bytes, Option, ap, sym, ◌∙◌, subst, arith, take-append-drop, length-map, length-take-le, map-append, map_more, Circuit, Tech, IsHostedBy, Failure, Bench, Corner, corner_files, IsRead, IsUnread, AreRead, AreUnread, Told, bare, TellsCircuit}
-use Rattle.cts_model.specs.netlist.Paths.{IsLoop}
+use Rattle.cts_model.specs.Vocabulary.{IsLoop}
 use Rattle.cts_engine.proofs.HostedLoops.{acyclic_hosted}
 use Rattle.cts_program.proofs.ReadLemmas.{read_more, unread_after}
 

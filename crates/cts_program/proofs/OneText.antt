@@ -1,7 +1,7 @@
 -- The texts for what a command is told have one status, none is a prefix of another, and the status
 -- says whether a period is admitted.
 use Rattle.cts_program.proofs.Vocabulary.{ℕ, ◌≡◌, ◌<◌, ◌⊎◌, inl, inr, false, List, length, take, refl, subst, Circuit, Tech, Form, Given, Ending, ending_status, number_given, value_given, IsText, IsStatusOf, AdmitsNone, Told, bare, placed, reported, joined, moving, IsTimedSo, TellsCircuit, TellsTech}
-use Rattle.cts_model.specs.timing.LeastPeriods.{HasNoPeriod}
+use Rattle.cts_model.specs.Vocabulary.{HasNoPeriod}
 use Rattle.command_line.specs.declared.table.Form.TheVariants as forms
 use Rattle.corners.specs.CommonPeriods.{HasNoCommonPeriod}
 use Rattle.answer_texts.specs.declared.answer.Ending.TheVariants as endings

@@ -1,6 +1,6 @@
 -- Steps of a command, one after the other, and its answer at the end.
 use Rattle.cts_program.proofs.Vocabulary.{ℕ, ◌≡◌, ◌≢◌, inl, inr, List, ◌++◌, Option, Result, Ok, Err, IfOk, IfErr, IsErrOf, refl, ap, sym, ◌∙◌, subst, length-map, Circuit, Tech, Command, Form, form_of, Given, options_of, Answer, ending_status, Failure, FileKind, kinds_in, kinds_for, texts_for, Tells, JoinTooMany, RefusesTold, IsText, Tell, RefusesFirst, NamedFile, Request, files_of, request_of, Stops, refused, unread, wants_memory, OrMemory, IsStep, IsServed, AreRead, AreUnread, FailsCircuit, Told, nothing, TellsCircuit, TellsTech, IsTimedSo}
-use Rattle.cts_model.specs.timing.PairLists.{JoinsMoreThan}
+use Rattle.cts_model.specs.Vocabulary.{JoinsMoreThan}
 use Rattle.command_line.specs.declared.table.Form.TheVariants as forms
 use Rattle.failure_lines.specs.declared.failure.Failure.TheVariants as failures
 use Rattle.cts_program.proofs.DocumentLists.{length-tell}

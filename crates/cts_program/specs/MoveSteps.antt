@@ -1,7 +1,6 @@
 -- What one step of the command `moves` goes by, and what it prints.
 use Rattle.std.specs.Prelude.{◌≡◌, ◌<◌, ℕ, ℤ, List, ◌++◌}
-use Rattle.cts_model.specs.placement.Points.{IsPointBelow}
-use Rattle.cts_model.specs.text.PrintedLines.{line_of}
+use Rattle.cts_model.specs.Vocabulary.{IsPointBelow, line_of}
 use Rattle.move_session.specs.declared.moves.Move.{Move}
 use Rattle.move_session.specs.Sessions.{SessionState}
 use Rattle.report_text.specs.WireLines.{wire_line}

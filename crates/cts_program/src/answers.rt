@@ -2,12 +2,7 @@
 
 ghost use Rattle.std.specs.Prelude.{◌≡◌, ◌≤◌, ℕ, List, true, length, IfOk, IfErr};
 ghost use Rattle.cts_base.specs.Fractions.{fraction_text};
-ghost use Rattle.cts_model.specs.declared.tree.Topology.{Topology};
-ghost use Rattle.cts_model.specs.netlist.Paths.{IsLoop};
-ghost use Rattle.cts_model.specs.text.PrintedLines.{text_of};
-ghost use Rattle.cts_model.specs.timing.PairLists.{JoinsMoreThan};
-ghost use Rattle.cts_model.specs.timing.Schedules.{IsMarginPeriod};
-ghost use Rattle.cts_model.specs.tree.Topologies.{IsTopology};
+ghost use Rattle.cts_model.specs.Vocabulary.{Topology, IsLoop, text_of, JoinsMoreThan, IsMarginPeriod, IsTopology};
 ghost use Rattle.command_line.specs.Commands.{is_period};
 ghost use Rattle.failure_lines.specs.declared.failure.Failure.{Failure};
 ghost use Rattle.outcomes.specs.SynthesisOutcomes.{IsOutcomeWith};

@@ -1,7 +1,7 @@
 //! The command `check`: whether a report, whoever made it, shows what it says.
 
 ghost use Rattle.std.specs.Prelude.{◌≡◌, ◌<◌, ℕ, length, IfOk, IfErr};
-ghost use Rattle.cts_model.specs.report.ReportBounds.{IsOfSize, IsWithinBounds};
+ghost use Rattle.cts_model.specs.Vocabulary.{IsOfSize, IsWithinBounds};
 ghost use Rattle.answer_texts.specs.Endings.{ending_status};
 ghost use Rattle.command_line.specs.declared.table.Form.TheVariants as forms;
 ghost use Rattle.cts_program.specs.Answers.{IsUnshown};

@@ -2,9 +2,7 @@
 //! tree is shown.
 
 ghost use Rattle.std.specs.Prelude.{◌≡◌, ◌≤◌, ◌<◌, ◌↔◌, ℕ, true, IsTrue, [], IfOk, IfErr};
-ghost use Rattle.cts_model.specs.timing.PairLists.{JoinsMoreThan};
-ghost use Rattle.cts_model.specs.report.ReportBounds.{IsOfSize, IsWithinBounds};
-ghost use Rattle.cts_model.specs.report.Shown.{IsShown};
+ghost use Rattle.cts_model.specs.Vocabulary.{JoinsMoreThan, IsOfSize, IsWithinBounds, IsShown};
 ghost use Rattle.cert_check.specs.Verdicts.{IsVerdict};
 ghost use Rattle.failure_lines.specs.declared.failure.Failure.{Failure};
 ghost use Rattle.outcomes.specs.SynthesisOutcomes.{BeginsLowest, IsOutcome, IsShownOutcome};

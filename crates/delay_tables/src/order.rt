@@ -1,6 +1,6 @@
 ghost use Rattle.std.specs.Prelude.{◌≡◌, false, slice_index_or};
 ghost use Rattle.toml.specs.View.{table_view};
-ghost use Rattle.cts_model.specs.netlist.Kinds.{place_of};
+ghost use Rattle.cts_model.specs.Vocabulary.{place_of};
 ghost use Rattle.cts_model.specs.table.TableKeys as tables;
 ghost use Rattle.cts_model.specs.table.TableFlaws as flaws;
 ghost use Rattle.delay_tables.specs.Keys.{texts};

@@ -2,8 +2,7 @@
 use Rattle.gate_order.proofs.Vocabulary.{◌≡◌, ◌+◌, ◌<◌, ◌≤◌, ℕ, zero, suc, Bool, true, false, cond, List, [], ◌∷◌, ◌++◌, length, take, get_or, All, Contains, Option, Some, None, IsTrue, inl, inr, refl, sym, ◌∙◌, ap, subst, arith, cons_option, slice_get, cases_lt, take_more, length-append, sum_by_more, All-nil, All-cons, All-head, All-tail, All-append, All-contains_itself, Contains-append_left, Contains-append_right, filter_map-append, get_or_from_slice_get, slice_get_past, slice_get_within, Signal, IsGate, Reads, is_gate_at, reads_among, reads_by, IsRead, AreReads}
 use Rattle.std.proofs.Common.{IsSomeAnd}
 use Rattle.std.specs.Option.{option_map_or}
-use Rattle.cts_model.specs.netlist.Kinds.{is_gate}
-use Rattle.cts_model.specs.netlist.Circuits.{gate_inputs}
+use Rattle.cts_model.specs.Vocabulary.{is_gate, gate_inputs}
 
 -- what the test of a number says
 pub IsGate-from_test : (signals : List Signal) (number : ℕ) → is_gate_at signals number ≡ true

@@ -1,5 +1,5 @@
 ghost use Rattle.std.specs.Prelude.{◌≡◌, ℕ, List, IfOk, IfErr, nat_lt, position};
-ghost use Rattle.cts_model.specs.netlist.Paths.{IsLoop};
+ghost use Rattle.cts_model.specs.Vocabulary.{IsLoop};
 ghost use Rattle.gate_order.specs.Orders.{IsTopologicalOrder};
 ghost use Rattle.gate_order.specs.Loops.{ShowsLoop};
 

@@ -1,7 +1,7 @@
 -- The furthest sinks of a set to the four sides, and what they say of its reach and its shows.
 use Rattle.merge_up.proofs.Vocabulary.{◌≡◌, ℕ, ◌≤◌, inl, inr, min, max, List, [], ◌∷◌, ◌++◌, Contains, Some, slice_get, filter_map, ℤ, ◌+ℤ◌, ◌-ℤ◌, neg_ℤ, ◌≤ℤ◌, sym, subst, ◌∙◌, arith, ints, clamps, to_z-of_z, Contains-append_left, Contains-append_right, filter_map-append, int_max, w128, kept, below_fits, Sink, cases_lt, ShowsMerge, sinks_of_u_show, sinks_of_v_show, span_is_symmetric, spread_is_reach, found_among, some_and, Extremes, IsExtremes, IsGreatest, IsLeastOf, spread, u_below, v_below, End, Ends, IsEnd, AreEnds, extremes_of, pair_of, u_back, v_back}
 use Rattle.tilted_rect.specs.Corners.{IsRect, IsSide}
-use Rattle.cts_model.specs.tree.Regions.{span, IsReach}
+use Rattle.cts_model.specs.Vocabulary.{span, IsReach}
 use Rattle.tilted_rect.proofs.ExtremeLemmas.{append_is_union, greatest_one, greatest_union}
 
 -- ---- one side

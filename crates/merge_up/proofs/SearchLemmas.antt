@@ -1,6 +1,6 @@
 -- A sink of a node that is furthest to a side, and where it is found.
 use Rattle.merge_up.proofs.Vocabulary.{◌≡◌, ◌⊎◌, inl, inr, ℕ, zero, suc, ◌+◌, ◌-◌, ◌<◌, ◌≤◌, List, [], ◌∷◌, ◌++◌, Option, None, Some, unwrap_or, IfSome, Contains, IsSomeAnd, length, slice_get, refl, sym, ap, subst, ◌∙◌, ℤ, neg_ℤ, arith, ints, to_z-of_z, All-contains, Contains-append_cases, Contains-append_left, Contains-append_right, Sink, Merge, IsTopology, Joins, numbers_below, sinks_below, first_made, merge_at, merge_here, second_made, number_below, numbers_below-merge, numbers_below-sink, sinks_below-among, Extremes, HasExtremeSides, IsExtremes, IsGreatest, IsLeastOf, IsRegion, u_above, u_below, v_above, v_below, Rect, kept, region_extremes, sides_from_region, w128, HoldsMerge, WorkState, IsEnd, IsSoFar, far_to, furthest_to, u_back, v_back, End}
-use Rattle.cts_model.specs.tree.Sinks.{AreTreeSinks, IsTreeSink}
+use Rattle.cts_model.specs.Vocabulary.{AreTreeSinks, IsTreeSink}
 use Rattle.std.specs.Prelude.{IsNone, IsSome, FitsSigned}
 use Rattle.merge_up.specs.Distances.{IsFar}
 use Rattle.merge_up.specs.declared.side.Side.{Side}

@@ -1,6 +1,5 @@
 ghost use Rattle.std.specs.Prelude.{◌≡◌, ◌≤◌, ◌+◌, ◌-◌, ◌^◌, min, length};
-ghost use Rattle.cts_model.specs.tree.Sinks.{AreTreeSinks};
-ghost use Rattle.cts_model.specs.tree.Topologies.{IsTopology};
+ghost use Rattle.cts_model.specs.Vocabulary.{AreTreeSinks, IsTopology};
 ghost use Rattle.merge_up.specs.Merging.{IsMerged, IsUnsettled};
 
 use crate::work::Work;

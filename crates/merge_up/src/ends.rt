@@ -1,5 +1,5 @@
 ghost use Rattle.std.specs.Prelude.{◌≡◌, ℕ, ℤ, ◌+ℤ◌, ◌-ℤ◌, neg_ℤ, ◌∷◌, [], ◌++◌, List, Some, slice_get};
-ghost use Rattle.cts_model.specs.declared.place.Sink.{Sink};
+ghost use Rattle.cts_model.specs.Vocabulary.{Sink};
 
 use crate::end::End;
 use cts_model::{Show, Sink, half};
@@ -19,9 +19,7 @@ pub struct Ends {
 }
 
 impl Ends {
-    ghost use Rattle.cts_model.specs.placement.Points.{IsMultipleOf};
-    ghost use Rattle.cts_model.specs.tree.ShownReaches.{ShowsMerge};
-    ghost use Rattle.cts_model.specs.tree.Sinks.{IsTreeSink};
+    ghost use Rattle.cts_model.specs.Vocabulary.{IsMultipleOf, ShowsMerge, IsTreeSink};
     ghost use Rattle.tilted_rect.specs.Extremes.{HasExtremeSides, spread};
     ghost use Rattle.merge_up.specs.Sides.{AreEnds, extremes_of};
 
@@ -101,7 +99,7 @@ impl Ends {
 }
 
 ghost use Rattle.std.specs.Prelude.{◌*◌, ◌^◌};
-ghost use Rattle.cts_model.specs.placement.Points.{IsBelow, IsMultipleOf};
+ghost use Rattle.cts_model.specs.Vocabulary.{IsBelow, IsMultipleOf};
 ghost use Rattle.tilted_rect.specs.Corners.{IsSide};
 ghost use Rattle.merge_up.specs.Distances.{IsStep};
 ghost use Rattle.merge_up.specs.Sides.{IsEnd, pair_of};

@@ -1,6 +1,5 @@
 ghost use Rattle.std.specs.Prelude.{◌≡◌, ◌≤◌, ◌<◌, ◌+◌, ◌⊎◌, ℕ, IfSome, IsNone, length};
-ghost use Rattle.cts_model.specs.tree.Sinks.{AreTreeSinks};
-ghost use Rattle.cts_model.specs.tree.Topologies.{IsTopology, numbers_below};
+ghost use Rattle.cts_model.specs.Vocabulary.{AreTreeSinks, IsTopology, numbers_below};
 ghost use Rattle.merge_up.specs.Sides.{IsSoFar};
 
 use crate::ends::Ends;

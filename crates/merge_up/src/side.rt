@@ -1,5 +1,5 @@
 ghost use Rattle.std.specs.Prelude.{◌≡◌, ℤ, ◌+ℤ◌, ◌-ℤ◌};
-ghost use Rattle.cts_model.specs.tree.Sinks.{IsTreeSink};
+ghost use Rattle.cts_model.specs.Vocabulary.{IsTreeSink};
 ghost use Rattle.merge_up.specs.Distances.{IsFar, IsStep};
 ghost use Rattle.merge_up.specs.Sides.{far_to, furthest_to};
 

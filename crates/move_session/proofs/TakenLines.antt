@@ -2,7 +2,7 @@
 use Rattle.move_session.proofs.Vocabulary.{◌≡◌, ◌<◌, ◌+◌, ℕ, true, List, [], ◌∷◌, ◌++◌, length, Option, Some, None, Result, Ok, Err, sym, ap, ◌∙◌, arith, cond, nat_lt, cons_option, result_err, result_ok, length_push, filter_map-append, entries_in, has_words, words_in, MovesFault, Move, entry_fault, fault_of, move_of, moves_of, told_at}
 use Rattle.std.specs.Option.{option_or}
 use Rattle.std.proofs.lemmas.Bool.Decides.{nat_tests}
-use Rattle.cts_model.specs.netlist.Netlists.{number_of}
+use Rattle.cts_model.specs.Vocabulary.{number_of}
 use Rattle.cts_model.proofs.EntryLemmas.{entries_round, written}
 use Rattle.move_session.specs.declared.fault.MovesFault.TheVariants.{TooMany}
 use Rattle.move_session.specs.declared.moving.Moving.{Moving}

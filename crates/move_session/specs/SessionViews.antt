@@ -1,7 +1,6 @@
 -- The fields of a session as its state.
 use Rattle.std.specs.Prelude.{◌≡◌, length}
-use Rattle.cts_model.specs.tree.Sinks.{AreTreeSinks}
-use Rattle.cts_model.specs.tree.Topologies.{IsTopology}
+use Rattle.cts_model.specs.Vocabulary.{AreTreeSinks, IsTopology}
 use Rattle.merge_up.specs.Merging.{IsMerged}
 use Rattle.merge_up.specs.Works.{IsFit, IsSettled}
 use Rattle.move_session.specs.Sessions.{SessionState}

@@ -1,7 +1,6 @@
 -- What the reader has taken in from the lines so far.
 use Rattle.std.specs.Prelude.{◌≡◌, ℕ, List, length}
-use Rattle.cts_model.specs.netlist.Netlists.{number_of}
-use Rattle.cts_model.specs.text.Entries.{entries_in}
+use Rattle.cts_model.specs.Vocabulary.{number_of, entries_in}
 use Rattle.move_session.specs.declared.moving.Moving.{Moving}
 use Rattle.move_session.specs.Moves.{moves_of}
 

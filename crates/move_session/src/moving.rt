@@ -1,7 +1,6 @@
 ghost use Rattle.std.specs.Prelude.{◌≡◌, ◌∷◌, [], IfOk};
-ghost use Rattle.cts_model.specs.text.Entries.{words_in};
+ghost use Rattle.cts_model.specs.Vocabulary.{words_in, number_of};
 ghost use Rattle.move_session.specs.Moves.{fault_of, move_of, told_at};
-ghost use Rattle.cts_model.specs.netlist.Netlists.{number_of};
 ghost use Rattle.name_set.specs.RegisterNames.{register_names};
 ghost use Rattle.move_session.specs.declared.fault.MovesFault.TheVariants as fault;
 

@@ -30,10 +30,7 @@ impl Model for Session {
 
 impl Session {
     ghost use Rattle.std.specs.Prelude.{◌≡◌, ◌<◌, ◌+◌, ◌*◌, ◌-◌, ◌^◌, min, IfOk, length};
-    ghost use Rattle.cts_model.specs.tree.Embeddings.{IsLeastWire, RealisesOffsets, embedding_of, total_wire};
-    ghost use Rattle.cts_model.specs.placement.Points.{IsBelow, IsUvBelow, IsUvMultipleOf};
-    ghost use Rattle.cts_model.specs.tree.Sinks.{AreTreeSinks};
-    ghost use Rattle.cts_model.specs.tree.Topologies.{IsTopology};
+    ghost use Rattle.cts_model.specs.Vocabulary.{IsLeastWire, RealisesOffsets, embedding_of, total_wire, IsBelow, IsUvBelow, IsUvMultipleOf, AreTreeSinks, IsTopology};
     ghost use Rattle.move_session.specs.MergesAbove.{merges_above};
     ghost use Rattle.move_session.specs.Sessions.{StandsFor, moved_sinks};
     ghost use Rattle.place_down.specs.Trees.{IsTreeSource, reach_in};
@@ -136,8 +133,7 @@ impl Session {
 }
 
 ghost use Rattle.std.specs.Prelude.{◌≡◌, ◌<◌, ◌^◌, length};
-ghost use Rattle.cts_model.specs.placement.Points.{IsUvBelow, IsUvMultipleOf};
-ghost use Rattle.cts_model.specs.tree.Sinks.{AreTreeSinks, IsTreeSink};
+ghost use Rattle.cts_model.specs.Vocabulary.{IsUvBelow, IsUvMultipleOf, AreTreeSinks, IsTreeSink};
 ghost use Rattle.move_session.specs.Sessions.{moved_sink};
 
 // A register's sink at another place.

@@ -1,7 +1,7 @@
 ghost use Rattle.std.specs.Prelude.{◌≡◌, ◌<◌, ◌≤◌, List, ℕ, [], ◌∷◌, ◌++◌, map, false, length, OnOk};
 ghost use Rattle.std.specs.List.{list_any};
 ghost use Rattle.std.specs.Str.{bytes_eq};
-ghost use Rattle.cts_model.specs.netlist.Netlists.{number_of};
+ghost use Rattle.cts_model.specs.Vocabulary.{number_of};
 
 use cts_base::NoMemory;
 use indexmap::IndexSet;

@@ -3,11 +3,7 @@ use Rattle.std.proofs.Common.{ℕ, ℤ, Bool, true, false, List, [], ◌∷◌}
 use Rattle.std.specs.Prelude.{MatchBool}
 use Rattle.std.specs.List.{All}
 use Rattle.std.proofs.lemmas.List.Elements.{All-head}
-use Rattle.cts_model.specs.declared.circuit.Circuit.{Circuit}
-use Rattle.cts_model.specs.declared.constraint.Constraint.{Constraint}
-use Rattle.cts_model.specs.declared.tech.Tech.{Tech}
-use Rattle.cts_model.specs.timing.Constraints.{IsConstraintOf, IsHoldConstraint, IsSetupConstraint}
-use Rattle.cts_model.specs.timing.Cycles.{IsCycle}
+use Rattle.cts_model.specs.Vocabulary.{Circuit, Constraint, Tech, IsConstraintOf, IsHoldConstraint, IsSetupConstraint, IsCycle}
 use Rattle.outcomes.specs.CircuitMargins.{HasNoPath}
 
 -- a constraint of a circuit has one

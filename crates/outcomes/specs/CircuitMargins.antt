@@ -3,14 +3,7 @@
 -- and the arrivals are in ticks over a scale.
 use Rattle.std.specs.Prelude.{ℕ, ℤ, pos, ◌+ℤ◌, List, All, length}
 use Rattle.cts_base.specs.declared.fraction.Fraction.{Fraction}
-use Rattle.cts_model.specs.declared.circuit.Circuit.{Circuit}
-use Rattle.cts_model.specs.declared.constraint.Constraint.{Constraint}
-use Rattle.cts_model.specs.declared.schedule.Schedule.{Schedule}
-use Rattle.cts_model.specs.declared.tech.Tech.{Tech}
-use Rattle.cts_model.specs.timing.Constraints.{IsConstraintOf}
-use Rattle.cts_model.specs.timing.Delays.{least_delay, greatest_delay}
-use Rattle.cts_model.specs.netlist.Paths.{IsPath}
-use Rattle.cts_model.specs.timing.Timing.{MeetsSetup, MeetsHold}
+use Rattle.cts_model.specs.Vocabulary.{Circuit, Constraint, Schedule, Tech, IsConstraintOf, least_delay, greatest_delay, IsPath, MeetsSetup, MeetsHold}
 use Rattle.critical_cycle.specs.CyclePlaces.{IsFromLowest}
 use Rattle.safety_margin.specs.Margins.{ShowsMargin, SparesNoMore}
 use Rattle.safety_margin.specs.SparingSchedules.{IsSmallSparing, IsSparingSchedule}

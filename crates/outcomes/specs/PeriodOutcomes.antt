@@ -1,13 +1,7 @@
 -- The outcome of a circuit: its least period and what shows it, or what forbids every period.
 -- Fishburn, "Clock Skew Optimization", 1990.
 use Rattle.cts_base.specs.declared.fraction.Fraction.{Fraction}
-use Rattle.cts_model.specs.declared.circuit.Circuit.{Circuit}
-use Rattle.cts_model.specs.declared.tech.Tech.{Tech}
-use Rattle.cts_model.specs.declared.timing.ZeroSkew.{ZeroSkew}
-use Rattle.cts_model.specs.declared.period.PeriodShow.{PeriodShow}
-use Rattle.cts_model.specs.timing.EqualArrivals.{IsZeroSkew}
-use Rattle.cts_model.specs.timing.PairLists.{HasSmallDelays}
-use Rattle.cts_model.specs.timing.LeastPeriods.{IsLeastFraction, IsPeriodShow, IsForbidding}
+use Rattle.cts_model.specs.Vocabulary.{Circuit, Tech, ZeroSkew, PeriodShow, IsZeroSkew, HasSmallDelays, IsLeastFraction, IsPeriodShow, IsForbidding}
 use Rattle.critical_cycle.specs.CyclePlaces.{IsFromLowest}
 use Rattle.outcomes.specs.declared.period.PeriodOutcome.{PeriodOutcome}
 use Rattle.outcomes.specs.declared.period.PeriodOutcome.TheVariants.{Found, Never}

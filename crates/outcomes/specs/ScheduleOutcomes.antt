@@ -2,17 +2,7 @@
 -- what they spare. Fishburn, "Clock Skew Optimization", 1990.
 use Rattle.std.specs.Prelude.{◌^◌, List, All}
 use Rattle.cts_base.specs.declared.fraction.Fraction.{Fraction}
-use Rattle.cts_model.specs.declared.circuit.Circuit.{Circuit}
-use Rattle.cts_model.specs.declared.tech.Tech.{Tech}
-use Rattle.cts_model.specs.declared.timing.ZeroSkew.{ZeroSkew}
-use Rattle.cts_model.specs.declared.period.PeriodShow.{PeriodShow}
-use Rattle.cts_model.specs.declared.schedule.Schedule.{Schedule}
-use Rattle.cts_model.specs.declared.schedule.Slack.{Slack}
-use Rattle.cts_model.specs.timing.LeastPeriods.{IsForbidding}
-use Rattle.cts_model.specs.timing.PairLists.{HasSmallDelays}
-use Rattle.cts_model.specs.placement.Points.{IsBelow}
-use Rattle.cts_model.specs.timing.Schedules.{IsLeastSchedule, IsSmallPeriod}
-use Rattle.cts_model.specs.timing.Slacks.{AreSlacks}
+use Rattle.cts_model.specs.Vocabulary.{Circuit, Tech, ZeroSkew, PeriodShow, Schedule, Slack, IsForbidding, HasSmallDelays, IsBelow, IsLeastSchedule, IsSmallPeriod, AreSlacks}
 use Rattle.outcomes.specs.declared.period.PeriodOutcome.{PeriodOutcome}
 use Rattle.outcomes.specs.declared.period.PeriodOutcome.TheVariants as periods
 use Rattle.outcomes.specs.declared.scheduling.ScheduleOutcome.{ScheduleOutcome}

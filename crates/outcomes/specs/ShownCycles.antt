@@ -1,6 +1,5 @@
 -- Where the cycle that shows a period begins.
-use Rattle.cts_model.specs.declared.period.PeriodShow.{PeriodShow}
-use Rattle.cts_model.specs.declared.period.PeriodShow.TheVariants.{Cycle, Floor}
+use Rattle.cts_model.specs.Vocabulary.{PeriodShow, Cycle, Floor}
 use Rattle.critical_cycle.specs.CyclePlaces.{IsFromLowest}
 
 -- the cycle that shows a period, if one does, begins at its lowest register

@@ -2,28 +2,7 @@
 -- for its topology that realises the schedule. Fishburn 1990; Boese and Kahng 1992; Chao and others
 -- 1992.
 use Rattle.std.specs.Prelude.{◌≡◌, ℕ, ℤ, List, length, take, Some, slice_get}
-use Rattle.cts_model.specs.declared.place.Point.{Point}
-use Rattle.cts_model.specs.declared.problem.Problem.{Problem}
-use Rattle.cts_model.specs.declared.report.Report.{Report}
-use Rattle.cts_model.specs.declared.report.Version.TheVariants.{Second}
-use Rattle.cts_model.specs.declared.tree.Merge.{Merge}
-use Rattle.cts_model.specs.declared.tree.Topology.{Topology}
-use Rattle.cts_model.specs.declared.tree.Wire.{Wire}
-use Rattle.cts_model.specs.timing.ConstraintPaths.{ArePathsOf}
-use Rattle.cts_model.specs.timing.Constraints.{IsConstraintOf}
-use Rattle.cts_model.specs.tree.DrawnWires.{IsDrawn}
-use Rattle.cts_model.specs.tree.Embeddings.{Embedding, IsLeastWire, embedding_of, total_wire}
-use Rattle.cts_model.specs.tree.GreedyMerges.{IsGreedy}
-use Rattle.cts_model.specs.timing.Leads.{EachLead}
-use Rattle.cts_model.specs.timing.LeastPeriods.{IsLeastFraction, IsPeriodShow}
-use Rattle.cts_model.specs.tree.RealisedSchedules.{RealisesSchedule}
-use Rattle.cts_model.specs.report.ReportBounds.{IsOfSize, IsWithinBounds}
-use Rattle.cts_model.specs.timing.Schedules.{IsLeastSchedule}
-use Rattle.cts_model.specs.report.Shown.{sinks_in, source_in}
-use Rattle.cts_model.specs.tree.SkewLaws.{IsLeastForSchedule}
-use Rattle.cts_model.specs.timing.Slacks.{AreSlacks}
-use Rattle.cts_model.specs.tree.Topologies.{IsParent, IsTopology}
-use Rattle.cts_model.specs.tree.WireDelays.{MeetsByWire}
+use Rattle.cts_model.specs.Vocabulary.{Point, Problem, Report, Second, Merge, Topology, Wire, ArePathsOf, IsConstraintOf, IsDrawn, Embedding, IsLeastWire, embedding_of, total_wire, IsGreedy, EachLead, IsLeastFraction, IsPeriodShow, RealisesSchedule, IsOfSize, IsWithinBounds, IsLeastSchedule, sinks_in, source_in, IsLeastForSchedule, AreSlacks, IsParent, IsTopology, MeetsByWire}
 pub use Rattle.place_down.specs.Trees.{IsPlacedTree}
 use Rattle.wire_detours.specs.WirePoints.{ArePoints}
 

@@ -1,9 +1,6 @@
 -- The outcome of a synthesis: the report of the tree, or what forbids every period. Fishburn,
 -- "Clock Skew Optimization", 1990.
-use Rattle.cts_model.specs.declared.problem.Problem.{Problem}
-use Rattle.cts_model.specs.declared.tree.Topology.{Topology}
-use Rattle.cts_model.specs.timing.LeastPeriods.{IsForbidding}
-use Rattle.cts_model.specs.report.Shown.{IsShown}
+use Rattle.cts_model.specs.Vocabulary.{Problem, Topology, IsForbidding, IsShown}
 use Rattle.critical_cycle.specs.CyclePlaces.{IsFromLowest}
 use Rattle.outcomes.specs.declared.synthesis.Outcome.{Outcome}
 use Rattle.outcomes.specs.declared.synthesis.Outcome.TheVariants.{Done, Never}

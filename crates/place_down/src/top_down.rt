@@ -1,6 +1,5 @@
 ghost use Rattle.std.specs.Prelude.{◌<◌, ◌+◌, length};
-ghost use Rattle.cts_model.specs.tree.Sinks.{AreTreeSinks};
-ghost use Rattle.cts_model.specs.tree.Topologies.{IsTopology};
+ghost use Rattle.cts_model.specs.Vocabulary.{AreTreeSinks, IsTopology};
 ghost use Rattle.merge_up.specs.Merging.{IsMerged};
 ghost use Rattle.merge_up.specs.Works.{IsFit, IsSettled};
 ghost use Rattle.place_down.specs.Descents.{CanSettle, IsSettledBelow, StandFrom, StaysAbove};

@@ -1,6 +1,6 @@
 ghost use Rattle.std.specs.Prelude.{◌≡◌, ◌≤◌, length, IfSome};
 ghost use Rattle.std.specs.Option.{option_map};
-ghost use Rattle.cts_model.specs.placement.PlaceLines.{entry_of_words, is_header, is_not_blank, place_words, y_len};
+ghost use Rattle.cts_model.specs.Vocabulary.{entry_of_words, is_header, is_not_blank, place_words, y_len};
 ghost use Rattle.place_reader.specs.View.{is_written, said_by};
 
 use crate::tail::is_tail;

@@ -3,7 +3,7 @@ use Rattle.tilted_rect.proofs.Vocabulary.{◌≡◌, ◌↔◌, ◌<ℤ◌, Opti
 use Rattle.std.specs.Option.{IsSome, IsNone, IfSome}
 use Rattle.std.proofs.Math.Logic.{∥∥₁_elim, ∥∥₁_map, ∥∥₁_prop}
 use Rattle.std.proofs.Props.{props}
-use Rattle.cts_model.specs.tree.Sinks.{IsTreeSink}
+use Rattle.cts_model.specs.Vocabulary.{IsTreeSink}
 use Rattle.tilted_rect.specs.Clusters.{IsReachAndRegion, HasTreeSinks}
 use Rattle.tilted_rect.specs.ClusterSets.{IsCluster}
 use Rattle.tilted_rect.specs.Extremes.{Extremes, IsExtremes, joined as joined_extremes, spread, IsGrown, IsMeeting, AreMultiplesOf, joined_twice}

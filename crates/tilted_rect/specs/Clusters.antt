@@ -1,9 +1,7 @@
 -- Clusters as deferred merging keeps them: of a set of sinks the reach and the region at that
 -- reach. Boese and Kahng 1992; Chao and others 1992.
 use Rattle.std.specs.Prelude.{List, All, ℤ, ◌+ℤ◌}
-use Rattle.cts_model.specs.declared.place.Sink.{Sink}
-use Rattle.cts_model.specs.tree.Regions.{IsReach}
-use Rattle.cts_model.specs.tree.Sinks.{IsTreeSink}
+use Rattle.cts_model.specs.Vocabulary.{Sink, IsReach, IsTreeSink}
 use Rattle.tilted_rect.specs.Extremes.{IsRegion}
 use Rattle.tilted_rect.specs.declared.rect.Rect.{Rect}
 

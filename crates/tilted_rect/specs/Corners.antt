@@ -1,6 +1,6 @@
 -- What a tilted rectangle keeps of its sides, in rotated coordinates and grid steps.
 use Rattle.std.specs.Prelude.{ℕ, ◌^◌, ℤ, ◌≤ℤ◌}
-use Rattle.cts_model.specs.placement.Points.{IsBelow, IsMultipleOf}
+use Rattle.cts_model.specs.Vocabulary.{IsBelow, IsMultipleOf}
 
 -- what stays below this in size leaves room for a few sums
 abbrev pub bound : ℕ

@@ -1,5 +1,5 @@
 ghost use Rattle.std.specs.Prelude.{◌^◌};
-ghost use Rattle.cts_model.specs.placement.Points.{IsBelow, IsMultipleOf};
+ghost use Rattle.cts_model.specs.Vocabulary.{IsBelow, IsMultipleOf};
 ghost use Rattle.tilted_rect.specs.Clusters.{HasTreeSinks};
 
 use crate::Rect;
@@ -19,9 +19,7 @@ pub struct Cluster {
 
 impl Cluster {
     ghost use Rattle.std.specs.Prelude.{◌≡◌, List, [], ◌∷◌, ◌+ℤ◌, ◌-ℤ◌, ◌≤ℤ◌};
-    ghost use Rattle.cts_model.specs.declared.place.Sink.{Sink};
-    ghost use Rattle.cts_model.specs.tree.Regions.{IsReach, IsUnion};
-    ghost use Rattle.cts_model.specs.tree.Sinks.{IsTreeSink};
+    ghost use Rattle.cts_model.specs.Vocabulary.{Sink, IsReach, IsUnion, IsTreeSink};
     ghost use Rattle.tilted_rect.specs.Extremes.{IsGrown};
     ghost use Rattle.tilted_rect.specs.ClusterSets.{IsCluster, cost_of};
 

@@ -1,6 +1,5 @@
 ghost use Rattle.std.specs.Prelude.{◌≡◌, ◌^◌};
-ghost use Rattle.cts_model.specs.placement.Points.{IsPointBelow, IsUvBelow, IsUvMultipleOf, IsPointMultipleOf, rotated};
-ghost use Rattle.cts_model.specs.declared.place.Point.{Point};
+ghost use Rattle.cts_model.specs.Vocabulary.{IsPointBelow, IsUvBelow, IsUvMultipleOf, IsPointMultipleOf, rotated, Point};
 
 use cts_model::{Point, Uv, half};
 

@@ -1,9 +1,7 @@
 ghost use Rattle.std.specs.Prelude.{◌≡◌, ◌<◌, ◌*◌, ◌^◌, ◌+ℤ◌, ◌-ℤ◌, ◌*ℤ◌, All, IfOk, Some, length};
 ghost use Rattle.std.specs.Option.{IfSome};
 ghost use Rattle.cts_model.specs.table.Tables.{IsWithin};
-ghost use Rattle.cts_model.specs.placement.Points.{IsBelow};
-ghost use Rattle.cts_model.specs.timing.Schedules.{IsSmallPeriod};
-ghost use Rattle.cts_model.specs.timing.Slacks.{AreSlacks, AreSmallSlacks, IsSmallSlack};
+ghost use Rattle.cts_model.specs.Vocabulary.{IsBelow, IsSmallPeriod, AreSlacks, AreSmallSlacks, IsSmallSlack};
 ghost use Rattle.gate_order.specs.LevelParts.{IsLevelsOf};
 ghost use Rattle.path_delays.specs.Windows.{IsWindowBelow};
 ghost use Rattle.timing_report.specs.SpareTicks.{AreSlacksBefore, IsSlackAt, IsTicks, hold_ticks, setup_ticks};

@@ -4,6 +4,4 @@ pub use Rattle.std.proofs.lemmas.List.{length_push, take_all, get_or_default}
 pub use Rattle.std.proofs.lemmas.List.Elements.{All-push, All-more}
 pub use Rattle.std.specs.Prelude.{nat_abs}
 pub use Rattle.corners.specs.CornerLists.{AreParallel, AreAlike, constraint_at, list_of}
-pub use Rattle.cts_model.specs.placement.Points.{IsBelow}
-pub use Rattle.cts_model.specs.timing.Constraints.{IsSatisfied, IsSmallConstraint}
-pub use Rattle.cts_model.specs.timing.Schedules.{arrival_of}
+pub use Rattle.cts_model.specs.Vocabulary.{IsBelow, IsSatisfied, IsSmallConstraint, arrival_of}

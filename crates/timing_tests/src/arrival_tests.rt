@@ -1,5 +1,5 @@
 ghost use Rattle.std.specs.Prelude.{◌≡◌, ◌^◌, All, length};
-ghost use Rattle.cts_model.specs.placement.Points.{IsBelow};
+ghost use Rattle.cts_model.specs.Vocabulary.{IsBelow};
 
 use crate::circuits::{S27, S27_GATES, circuit_of, table_of};
 use crate::same::{expect_same, made};

@@ -1,7 +1,6 @@
 //! Lists of constraints that the tests of several crates share, and periods that they admit.
 ghost use Rattle.std.specs.Prelude.{◌≡◌, ◌<◌, ◌*ℤ◌, pos, length, nat_abs};
-ghost use Rattle.cts_model.specs.timing.Constraints.{AreSmallConstraints, IsSatisfied, IsSmallConstraint, count_of};
-ghost use Rattle.cts_model.specs.timing.Schedules.{IsSmallPeriod, arrival_of};
+ghost use Rattle.cts_model.specs.Vocabulary.{AreSmallConstraints, IsSatisfied, IsSmallConstraint, count_of, IsSmallPeriod, arrival_of};
 ghost use Rattle.schedule.specs.Schedules.{IsAdmittedBy};
 
 use crate::constraint_tests::constraint;

@@ -1,5 +1,5 @@
 ghost use Rattle.std.specs.Prelude.{All};
-ghost use Rattle.cts_model.specs.timing.PairLists.{IsSmallPair};
+ghost use Rattle.cts_model.specs.Vocabulary.{IsSmallPair};
 
 use crate::same::{expect_same, made};
 use constraints::constraints_of;

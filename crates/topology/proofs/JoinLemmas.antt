@@ -3,7 +3,7 @@ use Rattle.topology.proofs.Vocabulary.{◌≡◌, ◌≢◌, ◌⊎◌, ℕ, ◌
 use Rattle.std.proofs.Math.ListN.{get_or-append}
 use Rattle.std.proofs.Math.Seq.{get_or-append_seam, take-append_seam}
 use Rattle.cts_model.proofs.TopologyLemmas.{EachMerge, first_made, second_made, sinks_below-append, sinks_below-push, sinks_below-sink}
-use Rattle.cts_model.specs.tree.Regions.{IsUnion}
+use Rattle.cts_model.specs.Vocabulary.{IsUnion}
 use Rattle.topology.proofs.CoverLemmas.{search_next}
 use Rattle.topology.proofs.EntryLemmas.{has_unjoined, node_within, one_cluster, place_there, unjoined_there}
 use Rattle.topology.proofs.ListLemmas.{pushed_cases}

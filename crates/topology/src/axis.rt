@@ -1,6 +1,5 @@
 ghost use Rattle.std.specs.Prelude.{◌≡◌, ◌<◌, length};
-ghost use Rattle.cts_model.specs.placement.Points.{IsBelow};
-ghost use Rattle.cts_model.specs.tree.Sinks.{AreTreeSinks};
+ghost use Rattle.cts_model.specs.Vocabulary.{IsBelow, AreTreeSinks};
 ghost use Rattle.tilted_rect.specs.Corners.{bound};
 ghost use Rattle.topology.specs.Axes.{high_on, low_on};
 

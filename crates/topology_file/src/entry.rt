@@ -1,7 +1,7 @@
 ghost use Rattle.std.specs.Prelude.{◌≡◌, ◌<◌, ◌-◌, ◌^◌, [], ◌∷◌, Some, None, if◌then◌else◌};
 ghost use Rattle.std.specs.Str.Parse.{digits_value};
 ghost use Rattle.cts_base.specs.NumberTexts.{is_plain_numeral};
-ghost use Rattle.cts_model.specs.text.Entries.{words_in};
+ghost use Rattle.cts_model.specs.Vocabulary.{words_in};
 ghost use Rattle.topology_file.specs.Entries.{is_entry, merge_of};
 ghost use Rattle.topology_file.specs.Kept.{kept_number, kept_merge};
 

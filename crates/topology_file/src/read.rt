@@ -1,6 +1,6 @@
 ghost use Rattle.std.specs.Prelude.{◌≤◌, length, IfOk};
 ghost use Rattle.cts_base.specs.LineFormats.{IsToldBy};
-ghost use Rattle.cts_model.specs.tree.Topologies.{IsTopology};
+ghost use Rattle.cts_model.specs.Vocabulary.{IsTopology};
 ghost use Rattle.topology_file.specs.TopologyTexts.{topology_in};
 ghost use Rattle.topology_file.specs.declared.fault.TopologyFault.{TopologyFault};
 

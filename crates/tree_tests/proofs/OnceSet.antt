@@ -3,7 +3,7 @@ use Rattle.tree_tests.proofs.Vocabulary.{◌≡◌, ℕ, zero, suc, ◌+◌, ◌
 use Rattle.std.proofs.lemmas.Int.{ints, clamps}
 use Rattle.std.proofs.lemmas.Option.{slice_get_within}
 use Rattle.cts_model.specs.declared.tree.Show.TheVariants as shows
-use Rattle.cts_model.specs.placement.Points.{IsBelow, IsMultipleOf}
+use Rattle.cts_model.specs.Vocabulary.{IsBelow, IsMultipleOf}
 use Rattle.tilted_rect.proofs.RegionLemmas.{region_from_sides, sides_from_region}
 use Rattle.tilted_rect.proofs.SpanLemmas.{reach_is_spread}
 use Rattle.tree_tests.proofs.HeldForOthers.{JoinsAt, held_of_two, joined_numbers}

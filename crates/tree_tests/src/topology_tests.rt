@@ -1,6 +1,5 @@
 ghost use Rattle.std.specs.Prelude.{◌^◌};
-ghost use Rattle.cts_model.specs.placement.Points.{IsBelow, IsMultipleOf};
-ghost use Rattle.cts_model.specs.tree.Sinks.{IsTreeSink};
+ghost use Rattle.cts_model.specs.Vocabulary.{IsBelow, IsMultipleOf, IsTreeSink};
 
 use crate::same::{expect_same, made};
 use cts_model::{Merge, Sink, Uv};

@@ -1,7 +1,5 @@
 ghost use Rattle.std.specs.Prelude.{◌≡◌, ◌+◌, ◌<◌, ◌^◌, length, IsTrue};
-ghost use Rattle.cts_model.specs.placement.Points.{IsBelow, IsMultipleOf};
-ghost use Rattle.cts_model.specs.tree.Sinks.{AreTreeSinks, IsTreeSink};
-ghost use Rattle.cts_model.specs.tree.Topologies.{IsLive, IsMerge, IsTopology};
+ghost use Rattle.cts_model.specs.Vocabulary.{IsBelow, IsMultipleOf, AreTreeSinks, IsTreeSink, IsLive, IsMerge, IsTopology};
 
 use crate::same::made;
 use cts_base::Listed;

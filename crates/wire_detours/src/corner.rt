@@ -1,5 +1,5 @@
 ghost use Rattle.std.specs.Prelude.{◌≡◌, ◌^◌, ◌+ℤ◌, ◌-ℤ◌};
-ghost use Rattle.cts_model.specs.placement.Points.{IsBelow, IsPointBelow};
+ghost use Rattle.cts_model.specs.Vocabulary.{IsBelow, IsPointBelow};
 
 use cts_model::Point;
 

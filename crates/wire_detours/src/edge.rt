@@ -1,6 +1,5 @@
 ghost use Rattle.std.specs.Prelude.{◌≡◌, ◌≤◌, ◌^◌, take, pos, ◌+ℤ◌, ◌<ℤ◌, ◌≤ℤ◌};
-ghost use Rattle.cts_model.specs.placement.Points.{IsBelow, IsMultipleOf, IsPointBelow, distance};
-ghost use Rattle.cts_model.specs.tree.DrawnWires.{ArePadded, IsDrawn};
+ghost use Rattle.cts_model.specs.Vocabulary.{IsBelow, IsMultipleOf, IsPointBelow, distance, ArePadded, IsDrawn};
 ghost use Rattle.wire_detours.specs.WirePoints.{ArePoints};
 
 use crate::shape::{around, beside, round, shortest};

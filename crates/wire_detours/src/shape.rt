@@ -1,5 +1,5 @@
 ghost use Rattle.std.specs.Prelude.{◌≡◌, ◌≢◌, [], ◌∷◌, ◌^◌, ◌<ℤ◌, ◌≤ℤ◌};
-ghost use Rattle.cts_model.specs.placement.Points.{IsBelow, IsPointBelow};
+ghost use Rattle.cts_model.specs.Vocabulary.{IsBelow, IsPointBelow};
 ghost use Rattle.wire_detours.specs.WirePoints.{beside, bent, over, round, under, shown};
 
 use crate::corner::{above, below, crossing, right_of};

@@ -1,6 +1,6 @@
 -- The host of a circuit: one more signal and register after the others.
 use Rattle.std.specs.Prelude.{◌≡◌, ◌++◌, ◌∷◌, [], IsFalse, length}
-use Rattle.cts_model.specs.declared.circuit.Circuit.{Circuit}
+use Rattle.cts_model.specs.Types.{Circuit}
 use Rattle.cts_model.specs.netlist.Circuits.{has_host, host_signal}
 
 -- no signal of the circuit is the host

@@ -3,7 +3,7 @@ use Rattle.std.specs.Prelude.{◌==◌, ℕ, not, List, [], ◌∷◌, map, filt
 use Rattle.std.specs.List.{filter_map}
 use Rattle.std.specs.Str.{bytes_eq}
 use Rattle.cts_base.specs.Lines.{lines_of}
-use Rattle.cts_model.specs.declared.signal.Signal.{Signal}
+use Rattle.cts_model.specs.Types.{Signal}
 use Rattle.cts_model.specs.netlist.Definitions.{definitions_in, defined_names, statements_in}
 use Rattle.cts_model.specs.netlist.Statements.{Definition, mention_of}
 

@@ -4,7 +4,7 @@ use Rattle.std.specs.Prelude.{ℕ, List, [], ◌∷◌, Option, Some, None, if�
 use Rattle.std.specs.Option.{option_map}
 use Rattle.std.specs.Str.{str_eq_ignore_ascii_case}
 use Rattle.cts_base.specs.Words.{before_hash}
-use Rattle.cts_model.specs.declared.kind.Kind.{Kind}
+use Rattle.cts_model.specs.Types.{Kind}
 use Rattle.cts_model.specs.declared.kind.Kind.TheVariants as kinds
 use Rattle.cts_model.specs.netlist.Kinds.{kind_of}
 use Rattle.cts_model.specs.text.Tokens.{Token, Word, Open, Close, Comma, Equals, tokens_of}

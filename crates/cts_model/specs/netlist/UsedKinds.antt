@@ -1,7 +1,6 @@
 -- Which gate kinds occur in a circuit.
 use Rattle.std.specs.Prelude.{◌≡◌, ◌↔◌, Bool, false, IsTrue, List, length, Any, slice_index_or}
-use Rattle.cts_model.specs.declared.kind.Kind.{Kind}
-use Rattle.cts_model.specs.declared.signal.Signal.{Signal}
+use Rattle.cts_model.specs.Types.{Kind, Signal}
 use Rattle.cts_model.specs.netlist.Kinds.{is_gate, place_of}
 
 -- of the eight gate kinds these are the ones that some signal has

@@ -2,7 +2,7 @@
 use Rattle.std.specs.Prelude.{ℕ, List, ℤ, Result, Ok, Err}
 use Rattle.cts_base.specs.Decimals.{micros_of}
 use Rattle.cts_base.specs.declared.number.NumberFault.{NumberFault}
-use Rattle.cts_model.specs.declared.place.Point.{Point}
+use Rattle.cts_model.specs.Types.{Point}
 
 -- the point of two coordinates, or why x is refused, or else y
 abbrev pub point_from : (x y : Result ℤ NumberFault) → Result Point NumberFault

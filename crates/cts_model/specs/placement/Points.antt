@@ -4,8 +4,7 @@
 -- numerators over one denominator, the scale, they are all fractions.
 use Rattle.std.specs.Prelude.{◌≡◌, ℕ, ◌%◌, ℤ, pos, ◌+ℤ◌, ◌-ℤ◌, ◌*ℤ◌, neg_ℤ, ◌<ℤ◌, nat_abs}
 use Rattle.std.specs.Int.{int_max}
-use Rattle.cts_model.specs.declared.place.Point.{Point}
-use Rattle.cts_model.specs.declared.place.Uv.{Uv}
+use Rattle.cts_model.specs.Types.{Point, Uv}
 
 -- the size of the number is below the bound
 pub record IsBelow (bound : ℕ) (number : ℤ) : Type 0 where

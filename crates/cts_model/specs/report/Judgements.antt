@@ -4,33 +4,8 @@
 -- of a cycle, a register, a node or an edge, which has the number of its lower node.
 use Rattle.std.specs.Prelude.{◌≡◌, ◌≢◌, ◌⊎◌, ◌<◌, ◌≤◌, ◌+◌, ◌==◌, ℕ, ℤ, pos, ◌-ℤ◌, ◌*ℤ◌, ◌≤ℤ◌, List, [], length, take, if◌then◌else◌, Some, slice_get, IfSome, IsSomeAnd, nat_abs}
 use Rattle.cts_base.specs.declared.fraction.Fraction.{Fraction}
-use Rattle.cts_model.specs.declared.circuit.Circuit.{Circuit}
-use Rattle.cts_model.specs.declared.constraint.Constraint.{Constraint}
-use Rattle.cts_model.specs.declared.period.PeriodShow.{PeriodShow}
-use Rattle.cts_model.specs.declared.period.PeriodShow.TheVariants.{Cycle, Floor}
-use Rattle.cts_model.specs.declared.place.Sink.{Sink}
-use Rattle.cts_model.specs.declared.place.Uv.{Uv}
-use Rattle.cts_model.specs.declared.schedule.Lead.{Lead}
-use Rattle.cts_model.specs.declared.schedule.Slack.{Slack}
-use Rattle.cts_model.specs.declared.tech.Tech.{Tech}
-use Rattle.cts_model.specs.declared.tree.Merge.{Merge}
-use Rattle.cts_model.specs.declared.tree.Show.{Show}
-use Rattle.cts_model.specs.declared.tree.Wire.{Wire}
-use Rattle.cts_model.specs.timing.ConstraintPaths.{GivesWeight}
-use Rattle.cts_model.specs.timing.Constraints.{IsConstraintOf}
-use Rattle.cts_model.specs.timing.Cycles.{total_count, total_weight}
-use Rattle.cts_model.specs.timing.Delays.{greatest_delay, least_delay}
-use Rattle.cts_model.specs.tree.DrawnWires.{IsDrawn}
-use Rattle.cts_model.specs.tree.Embeddings.{AreWiresDown, Embedding}
-use Rattle.cts_model.specs.timing.Leads.{ShowsEarliest, lead_at}
-use Rattle.cts_model.specs.timing.LeastPeriods.{IsFloorPeriod}
-use Rattle.cts_model.specs.netlist.Paths.{IsPath}
-use Rattle.cts_model.specs.placement.Points.{distance, rotated}
-use Rattle.cts_model.specs.timing.Schedules.{arrival_of}
-use Rattle.cts_model.specs.tree.ShownReaches.{ShowsMerge, ShowsSource}
-use Rattle.cts_model.specs.timing.Slacks.{IsSlack}
-use Rattle.cts_model.specs.timing.Timing.{MeetsHold, MeetsSetup}
-use Rattle.cts_model.specs.tree.Topologies.{IsMerge, IsParent, numbers_below, root_of, source_of}
+use Rattle.cts_model.specs.Types.{Circuit, Constraint, PeriodShow, Cycle, Floor, Sink, Uv, Lead, Slack, Tech, Merge, Show, Wire}
+use Rattle.cts_model.specs.Terms.{GivesWeight, IsConstraintOf, total_count, total_weight, greatest_delay, least_delay, IsDrawn, AreWiresDown, Embedding, ShowsEarliest, lead_at, IsFloorPeriod, IsPath, distance, rotated, arrival_of, ShowsMerge, ShowsSource, IsSlack, MeetsHold, MeetsSetup, IsMerge, IsParent, numbers_below, root_of, source_of}
 
 -- the period isn't below the floor of the delay table
 abbrev pub IsFromFloor : Tech → Fraction → Type 0

@@ -1,15 +1,8 @@
 -- What a report keeps to is so in one way.
 use Rattle.std.specs.Prelude.{ℕ, List, All}
 use Rattle.std.proofs.Props.{props}
-use Rattle.cts_model.specs.declared.circuit.Circuit.{Circuit}
-use Rattle.cts_model.specs.declared.period.PeriodShow.{PeriodShow}
-use Rattle.cts_model.specs.declared.period.PeriodShow.TheVariants.{Cycle, Floor}
-use Rattle.cts_model.specs.declared.report.Report.{Report}
-use Rattle.cts_model.specs.declared.schedule.Lead.{Lead}
-use Rattle.cts_model.specs.declared.schedule.Lead.TheVariants.{Zero, Tight}
-use Rattle.cts_model.specs.declared.tech.Tech.{Tech}
-use Rattle.cts_model.specs.declared.tree.Show.{Show}
-use Rattle.cts_model.specs.declared.tree.Show.TheVariants.{Pair, Sink, Root}
+use Rattle.cts_model.specs.Types.{Circuit, PeriodShow, Cycle, Floor, Report, Lead, Zero, Tight, Tech, Show, Pair, Root}
+use Rattle.cts_model.specs.declared.tree.Show.TheVariants.{Sink}
 use Rattle.cts_model.specs.report.ReportBounds.{HasSmallWeights, HasTreeBounds, IsMergeShow, IsOfSize, IsSmallLead, IsSourceShow, LeadsAmong, ShowsAmong, ShowsPeriodAmong}
 
 show_prop : (registers : ℕ) (show : Show) → IsProp (ShowsAmong registers show)

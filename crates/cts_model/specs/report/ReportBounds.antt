@@ -1,28 +1,10 @@
 -- What a report keeps to, so that it has a text and can be read back: it is of a circuit's size,
 -- and its numbers are within bounds.
 use Rattle.std.specs.Prelude.{◌≡◌, ◌<◌, ◌≤◌, ◌+◌, ◌*◌, ◌^◌, ℕ, pos, neg_ℤ, List, length, drop, take, All, Some, slice_get, slice_index_or}
-use Rattle.cts_model.specs.declared.circuit.Circuit.{Circuit}
-use Rattle.cts_model.specs.declared.constraint.Constraint.{Constraint}
-use Rattle.cts_model.specs.declared.period.PeriodShow.{PeriodShow}
-use Rattle.cts_model.specs.declared.period.PeriodShow.TheVariants.{Cycle, Floor}
-use Rattle.cts_model.specs.declared.report.Report.{Report}
-use Rattle.cts_model.specs.declared.report.Version.{Version}
-use Rattle.cts_model.specs.declared.report.Version.TheVariants.{First, Second}
-use Rattle.cts_model.specs.declared.schedule.Lead.{Lead}
-use Rattle.cts_model.specs.declared.schedule.Lead.TheVariants.{Zero, Tight}
-use Rattle.cts_model.specs.declared.tech.Tech.{Tech}
-use Rattle.cts_model.specs.declared.tree.Merge.{Merge}
-use Rattle.cts_model.specs.declared.tree.Show.{Show}
-use Rattle.cts_model.specs.declared.tree.Show.TheVariants.{Pair, Sink, Root}
-use Rattle.cts_model.specs.declared.tree.Wire.{Wire}
-use Rattle.cts_model.specs.tree.DrawnWires.{ArePadded}
-use Rattle.cts_model.specs.placement.Points.{IsBelow, IsPointBelow}
-use Rattle.cts_model.specs.tree.Problems.{grid_of, scheduled_length}
-use Rattle.cts_model.specs.text.PrintedLines.{text_of}
+use Rattle.cts_model.specs.Types.{Circuit, Constraint, PeriodShow, Cycle, Floor, Report, Version, First, Second, Lead, Zero, Tight, Tech, Merge, Show, Pair, Root, Wire}
+use Rattle.cts_model.specs.declared.tree.Show.TheVariants.{Sink}
+use Rattle.cts_model.specs.Terms.{ArePadded, IsBelow, IsPointBelow, grid_of, scheduled_length, text_of, IsSmallPeriod, arrival_of, AreSmallSlacks, root_of, source_of}
 use Rattle.cts_model.specs.report.ReportLines.{report_lines}
-use Rattle.cts_model.specs.timing.Schedules.{IsSmallPeriod, arrival_of}
-use Rattle.cts_model.specs.timing.Slacks.{AreSmallSlacks}
-use Rattle.cts_model.specs.tree.Topologies.{root_of, source_of}
 
 -- the registers of a constraint are among so many
 pub record IsBetweenRegisters (registers : ℕ) (constraint : Constraint) : Type 0 where

@@ -5,24 +5,9 @@ use Rattle.std.specs.List.{flat_map, range_with_len}
 use Rattle.std.specs.Option.{option_map_or}
 use Rattle.std.specs.Fmt.{signed_decimal}
 use Rattle.cts_base.specs.Fractions.{quotient_text}
-use Rattle.cts_model.specs.declared.circuit.Circuit.{Circuit}
-use Rattle.cts_model.specs.declared.constraint.Constraint.{Constraint}
-use Rattle.cts_model.specs.declared.period.PeriodShow.{PeriodShow}
-use Rattle.cts_model.specs.declared.period.PeriodShow.TheVariants.{Cycle, Floor}
-use Rattle.cts_model.specs.declared.place.Point.{Point}
-use Rattle.cts_model.specs.declared.report.Report.{Report}
-use Rattle.cts_model.specs.declared.report.Version.{Version}
-use Rattle.cts_model.specs.declared.report.Version.TheVariants.{First, Second}
-use Rattle.cts_model.specs.declared.schedule.Lead.{Lead}
-use Rattle.cts_model.specs.declared.schedule.Lead.TheVariants.{Zero, Tight}
-use Rattle.cts_model.specs.declared.tree.Merge.{Merge}
-use Rattle.cts_model.specs.declared.tree.Show.{Show}
-use Rattle.cts_model.specs.declared.tree.Show.TheVariants.{Pair, Sink, Root}
-use Rattle.cts_model.specs.declared.tree.Wire.{Wire}
-use Rattle.cts_model.specs.netlist.Paths.{register_name}
-use Rattle.cts_model.specs.text.PrintedLines.{Words, count_line, period_line, line_for, show_lines, floor_line, register_line}
-use Rattle.cts_model.specs.timing.Schedules.{arrival_of}
-use Rattle.cts_model.specs.tree.Topologies.{source_of}
+use Rattle.cts_model.specs.Types.{Circuit, Constraint, PeriodShow, Cycle, Floor, Point, Report, Version, First, Second, Lead, Zero, Tight, Merge, Show, Pair, Root, Wire}
+use Rattle.cts_model.specs.declared.tree.Show.TheVariants.{Sink}
+use Rattle.cts_model.specs.Terms.{register_name, Words, count_line, period_line, line_for, show_lines, floor_line, register_line, arrival_of, source_of}
 
 abbrev pub version_line : Version → Words
 version_line First = codes "cts" ∷ codes "1" ∷ []

@@ -3,33 +3,13 @@
 -- paths of Cormen and others, "Introduction to Algorithms", 2001.
 use Rattle.std.specs.Prelude.{◌≡◌, ◌≢◌, ◌↔◌, ℕ, List, [], All, length, Some, nat_abs, slice_get}
 use Rattle.cts_base.specs.declared.fraction.Fraction.{Fraction}
-use Rattle.cts_model.specs.declared.circuit.Circuit.{Circuit}
-use Rattle.cts_model.specs.declared.constraint.Constraint.{Constraint}
-use Rattle.cts_model.specs.declared.period.PeriodShow.{PeriodShow}
-use Rattle.cts_model.specs.declared.period.PeriodShow.TheVariants.{Cycle, Floor}
-use Rattle.cts_model.specs.declared.place.Sink.{Sink}
-use Rattle.cts_model.specs.declared.place.Uv.{Uv}
+use Rattle.cts_model.specs.Types.{Circuit, Constraint, PeriodShow, Cycle, Floor, Sink, Uv, Report, Second, Tech}
 use Rattle.cts_model.specs.declared.problem.Problem.{Problem}
-use Rattle.cts_model.specs.declared.report.Report.{Report}
-use Rattle.cts_model.specs.declared.report.Version.TheVariants.{Second}
-use Rattle.cts_model.specs.declared.tech.Tech.{Tech}
-use Rattle.cts_model.specs.timing.ConstraintPaths.{GivesWeight}
-use Rattle.cts_model.specs.timing.Constraints.{IsConstraintOf}
-use Rattle.cts_model.specs.timing.Cycles.{ShowsPeriod}
-use Rattle.cts_model.specs.tree.Embeddings.{IsEmbedding, embedding_of, total_wire}
+use Rattle.cts_model.specs.Terms.{GivesWeight, IsConstraintOf, ShowsPeriod, IsEmbedding, embedding_of, total_wire, EachShowsEarliest, IsFloorPeriod, RealisesSchedule, AreFromZero, arrival_of, AreShownBy, AreSlacks, Meets, IsTopology, IsReachDown}
 use Rattle.cts_model.specs.report.Judgements.{IsDrawnEdge, IsFromFloor}
-use Rattle.cts_model.specs.timing.Leads.{EachShowsEarliest}
-use Rattle.cts_model.specs.timing.LeastPeriods.{IsFloorPeriod}
-use Rattle.cts_model.specs.tree.RealisedSchedules.{RealisesSchedule}
 use Rattle.cts_model.specs.report.ReportBounds.{IsOfSize, IsWithinBounds}
 use Rattle.cts_model.specs.report.ReportLines.{number_at}
-use Rattle.cts_model.specs.timing.Schedules.{AreFromZero, arrival_of}
 use Rattle.cts_model.specs.report.Shown.{IsShown, cycle_of, sinks_in, source_in}
-use Rattle.cts_model.specs.tree.ShownReaches.{AreShownBy}
-use Rattle.cts_model.specs.timing.Slacks.{AreSlacks}
-use Rattle.cts_model.specs.timing.Timing.{Meets}
-use Rattle.cts_model.specs.tree.Topologies.{IsTopology}
-use Rattle.cts_model.specs.tree.WaysDown.{IsReachDown}
 
 -- a cycle of the circuit's constraints shows the period, or it is the floor
 abbrev pub IsPeriodShown : Circuit → Tech → Fraction → PeriodShow → Type 0

@@ -2,28 +2,12 @@
 -- Fishburn 1990; Boese and Kahng 1992; Chao and others 1992; leads as in the trees of shortest
 -- paths of Cormen and others, "Introduction to Algorithms", 2001.
 use Rattle.std.specs.Prelude.{◌≡◌, ◌<◌, ◌*◌, ℕ, List, [], length, nat_abs}
-use Rattle.cts_model.specs.declared.circuit.Circuit.{Circuit}
-use Rattle.cts_model.specs.declared.constraint.Constraint.{Constraint}
-use Rattle.cts_model.specs.declared.period.PeriodShow.{PeriodShow}
-use Rattle.cts_model.specs.declared.period.PeriodShow.TheVariants.{Cycle, Floor}
-use Rattle.cts_model.specs.declared.place.Sink.{Sink}
-use Rattle.cts_model.specs.declared.place.Uv.{Uv}
+use Rattle.cts_model.specs.Types.{Circuit, Constraint, PeriodShow, Cycle, Floor, Sink, Uv, Report, Second, Tech}
 use Rattle.cts_model.specs.declared.problem.Problem.{Problem}
-use Rattle.cts_model.specs.declared.report.Report.{Report}
-use Rattle.cts_model.specs.declared.report.Version.TheVariants.{Second}
-use Rattle.cts_model.specs.declared.tech.Tech.{Tech}
-use Rattle.cts_model.specs.tree.Embeddings.{IsEmbedding, embedding_of, total_wire}
+use Rattle.cts_model.specs.Terms.{IsEmbedding, embedding_of, total_wire, IsLeastFraction, on_grid, sinks_of, RealisesSchedule, rotated, arrival_of, IsLeastSchedule, IsLeastForSchedule, Meets, IsTopology}
 use Rattle.cts_model.specs.report.Judgements.{IsFromFloor, HoldsTogether, IsOfCircuit, GivesPeriod, MeetsAt, HasShape, IsLongEnough, IsDrawnEdge, IsSkewed, IsReachShown, HasSlack, IsGivenPath, IsEarliest}
-use Rattle.cts_model.specs.timing.LeastPeriods.{IsLeastFraction}
-use Rattle.cts_model.specs.tree.Problems.{on_grid, sinks_of}
-use Rattle.cts_model.specs.tree.RealisedSchedules.{RealisesSchedule}
 use Rattle.cts_model.specs.report.ReportBounds.{IsOfSize, IsWithinBounds}
 use Rattle.cts_model.specs.report.ReportLines.{number_at}
-use Rattle.cts_model.specs.placement.Points.{rotated}
-use Rattle.cts_model.specs.timing.Schedules.{arrival_of, IsLeastSchedule}
-use Rattle.cts_model.specs.tree.SkewLaws.{IsLeastForSchedule}
-use Rattle.cts_model.specs.timing.Timing.{Meets}
-use Rattle.cts_model.specs.tree.Topologies.{IsTopology}
 
 -- the registers as the report's tree has them, and where its source stands
 abbrev pub sinks_in : Problem → Report → List Sink

@@ -2,8 +2,7 @@
 use Rattle.std.specs.Prelude.{◌≡◌, ℕ, pos, ◌*ℤ◌, Bool, false, IsTrue, slice_index_or, List, [], ◌∷◌, map, Some, None, IsUtf8, codes}
 use Rattle.toml.specs.Data.{Members}
 use Rattle.toml.specs.Parse.{parse_document}
-use Rattle.cts_model.specs.declared.kind.Kind.{Kind}
-use Rattle.cts_model.specs.declared.tech.Tech.{Tech}
+use Rattle.cts_model.specs.Types.{Kind, Tech}
 use Rattle.cts_model.specs.netlist.Kinds.{is_gate, place_of}
 use Rattle.cts_model.specs.timing.Delays.{delay_of}
 use Rattle.cts_model.specs.table.TableKeys.{gate_kinds}

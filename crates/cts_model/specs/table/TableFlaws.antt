@@ -8,7 +8,7 @@ use Rattle.std.specs.Str.{bytes_eq}
 use Rattle.std.specs.Ordering.{nat_cmp, is_lt}
 use Rattle.std.specs.Cmp.Lexicographic.{slice_cmp}
 use Rattle.toml.specs.Data.{Data, Members, no_members, member, as_table}
-use Rattle.cts_model.specs.declared.kind.Kind.{Kind}
+use Rattle.cts_model.specs.Types.{Kind}
 use Rattle.cts_model.specs.netlist.Kinds.{place_of}
 use Rattle.cts_model.specs.table.TableKeys.{Need, Always, InTable, Optional, Key, Section, sections, gate_kinds, gate_way, word_of, top_names}
 use Rattle.cts_model.specs.table.TableValues.{dotted, table_at, value_at, number_at, has_form, is_in_range}

@@ -1,8 +1,7 @@
 -- The keys of a delay table, which is a TOML document: each table of the document with its keys, in
 -- the order in which they are judged. The keys and their ranges are this project's.
 use Rattle.std.specs.Prelude.{ℕ, List, [], ◌∷◌, ◌++◌, map, codes}
-use Rattle.cts_model.specs.declared.kind.Kind.{Kind}
-use Rattle.cts_model.specs.declared.kind.Kind.TheVariants.{And, Nand, Or, Nor, Not, Xor, Xnor, Buff}
+use Rattle.cts_model.specs.Types.{Kind, And, Nand, Or, Nor, Not, Xor, Xnor, Buff}
 
 -- what stands at a key
 pub data Form : Type 0 where

@@ -4,7 +4,7 @@ use Rattle.std.specs.Prelude.{◌≡◌, ◌⊎◌, ◌↔◌, ℕ, ◌<ℤ◌, 
 use Rattle.std.specs.Ordering.{nat_cmp, is_lt}
 use Rattle.std.specs.Cmp.Lexicographic.{slice_cmp}
 use Rattle.toml.specs.Data.{Members}
-use Rattle.cts_model.specs.declared.kind.Kind.{Kind}
+use Rattle.cts_model.specs.Types.{Kind}
 use Rattle.cts_model.specs.table.TableFlaws.{LeastAboveGreatest, UnknownKey, name_flaw, order_flaw, unknown_names}
 use Rattle.cts_model.specs.table.TableKeys.{gate_kinds, gate_way, word_of}
 use Rattle.cts_model.specs.table.TableValues.{number_at}

@@ -5,8 +5,7 @@ use Rattle.std.specs.List.{flat_map, list_all}
 use Rattle.std.specs.Char.{is_ascii_digit}
 use Rattle.std.specs.Str.Parse.{digits_value}
 use Rattle.toml.specs.Data.{Data, Members, get_member, as_str, as_integer, as_table}
-use Rattle.cts_model.specs.declared.kind.Kind.{Kind}
-use Rattle.cts_model.specs.declared.tech.GateDelay.{GateDelay}
+use Rattle.cts_model.specs.Types.{Kind, GateDelay}
 use Rattle.cts_model.specs.table.TableKeys.{Form, Fraction, Node, UpTo, gate_way}
 
 -- a name after those of the tables that lead to it, joined by dots

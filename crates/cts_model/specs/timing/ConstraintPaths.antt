@@ -1,10 +1,6 @@
 -- The paths that give constraints their weights. Fishburn, "Clock Skew Optimization", 1990.
 use Rattle.std.specs.Prelude.{◌≡◌, ◌-◌, ℕ, ◌+ℤ◌, ◌-ℤ◌, nat_le, MatchBool, List, [], ◌∷◌, length}
-use Rattle.cts_model.specs.declared.circuit.Circuit.{Circuit}
-use Rattle.cts_model.specs.declared.constraint.Constraint.{Constraint}
-use Rattle.cts_model.specs.declared.period.PeriodShow.{PeriodShow}
-use Rattle.cts_model.specs.declared.period.PeriodShow.TheVariants.{Cycle, Floor}
-use Rattle.cts_model.specs.declared.tech.Tech.{Tech}
+use Rattle.cts_model.specs.Types.{Circuit, Constraint, PeriodShow, Cycle, Floor, Tech}
 use Rattle.cts_model.specs.timing.Delays.{least_delay, greatest_delay}
 use Rattle.cts_model.specs.netlist.Paths.{IsPath}
 

@@ -1,9 +1,7 @@
 -- What paths ask of the arrivals at registers, as edges between them. Fishburn, "Clock Skew
 -- Optimization", 1990. Weights are in ticks; the period and the arrivals are in ticks over a scale.
 use Rattle.std.specs.Prelude.{◌≡◌, ◌<◌, ◌≤◌, ◌^◌, ℕ, ℤ, pos, ◌+ℤ◌, ◌-ℤ◌, ◌*ℤ◌, ◌≤ℤ◌, MatchBool, if◌then◌else◌, List, All, length}
-use Rattle.cts_model.specs.declared.circuit.Circuit.{Circuit}
-use Rattle.cts_model.specs.declared.tech.Tech.{Tech}
-use Rattle.cts_model.specs.declared.constraint.Constraint.{Constraint}
+use Rattle.cts_model.specs.Types.{Circuit, Tech, Constraint}
 use Rattle.cts_model.specs.placement.Points.{IsBelow}
 use Rattle.cts_model.specs.netlist.Paths.{IsPath}
 use Rattle.cts_model.specs.timing.Delays.{least_delay, greatest_delay}

@@ -1,7 +1,7 @@
 -- Cycles of constraints between registers, and what they show of the period. Fishburn, "Clock Skew
 -- Optimization", 1990.
 use Rattle.std.specs.Prelude.{◌≡◌, ◌≢◌, ◌≤◌, ℕ, ℤ, pos, ◌+ℤ◌, ◌*ℤ◌, ◌≤ℤ◌, ◌<ℤ◌, List, [], ◌∷◌, AllPairs, IsSomeAnd, slice_get, sum_by}
-use Rattle.cts_model.specs.declared.constraint.Constraint.{Constraint}
+use Rattle.cts_model.specs.Types.{Constraint}
 use Rattle.cts_model.specs.timing.Constraints.{count_of, Satisfies}
 
 -- the constraints lead from the one register to the other: the head of each is the tail of the next

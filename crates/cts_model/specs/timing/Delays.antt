@@ -1,11 +1,7 @@
 -- The least and the greatest delay of a path, in ticks: two sums, each over its own numbers.
 use Rattle.std.specs.Prelude.{ℕ, ◌-◌, ℤ, pos, ◌+ℤ◌, ◌*ℤ◌, false, List, [], ◌∷◌, length, slice_get, slice_index_or, Option, Some, None}
-use Rattle.cts_model.specs.declared.kind.Kind.{Kind}
+use Rattle.cts_model.specs.Types.{Kind, Signal, Circuit, GateDelay, Tech}
 use Rattle.cts_model.specs.netlist.Kinds.{place_of}
-use Rattle.cts_model.specs.declared.signal.Signal.{Signal}
-use Rattle.cts_model.specs.declared.circuit.Circuit.{Circuit}
-use Rattle.cts_model.specs.declared.tech.GateDelay.{GateDelay}
-use Rattle.cts_model.specs.declared.tech.Tech.{Tech}
 
 -- what a table says of a kind that has no gates
 abbrev pub no_delay : GateDelay

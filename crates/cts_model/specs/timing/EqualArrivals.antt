@@ -1,11 +1,8 @@
 -- The least period where the clock reaches all registers at once: the case of no skew in
 -- Fishburn, "Clock Skew Optimization", 1990.
 use Rattle.std.specs.Prelude.{◌≡◌, ℕ, ◌<◌, ◌⊎◌, ℤ, ◌+ℤ◌, ◌≤ℤ◌, ◌<ℤ◌, List}
-use Rattle.cts_model.specs.declared.circuit.Circuit.{Circuit}
-use Rattle.cts_model.specs.declared.tech.Tech.{Tech}
-use Rattle.cts_model.specs.declared.timing.PairDelay.{PairDelay}
-use Rattle.cts_model.specs.declared.timing.ZeroSkew.{ZeroSkew}
-use Rattle.cts_model.specs.declared.timing.ZeroSkew.TheVariants.{Fails, Floor, Setup}
+use Rattle.cts_model.specs.Types.{Circuit, Tech, PairDelay, ZeroSkew, Fails, Setup}
+use Rattle.cts_model.specs.declared.timing.ZeroSkew.TheVariants.{Floor}
 use Rattle.cts_model.specs.netlist.Paths.{IsPath}
 use Rattle.cts_model.specs.timing.Delays.{least_delay, greatest_delay}
 

@@ -2,9 +2,7 @@
 -- Optimization", 1990. Each law is the clause of a function of the module laws.
 use Rattle.std.specs.Prelude.{◌≤◌, ℕ, ℤ, pos, ◌*ℤ◌, ◌≤ℤ◌, ◌<ℤ◌, List, All, Contains, nat_abs}
 use Rattle.cts_base.specs.declared.fraction.Fraction.{Fraction}
-use Rattle.cts_model.specs.declared.circuit.Circuit.{Circuit}
-use Rattle.cts_model.specs.declared.tech.Tech.{Tech}
-use Rattle.cts_model.specs.declared.constraint.Constraint.{Constraint}
+use Rattle.cts_model.specs.Types.{Circuit, Tech, Constraint}
 use Rattle.cts_model.specs.timing.Timing.{Meets, IsAdmitted}
 use Rattle.cts_model.specs.timing.Constraints.{IsSatisfied, Satisfies, IsConstraintOf}
 use Rattle.cts_model.specs.timing.Cycles.{IsCycle, total_weight, total_count, ShowsPeriod, ForbidsPeriods}

@@ -3,9 +3,7 @@
 -- The law is the clause of a function of the module laws.
 use Rattle.std.specs.Prelude.{◌≡◌, ℤ, List, length, nat_abs}
 use Rattle.cts_base.specs.declared.fraction.Fraction.{Fraction}
-use Rattle.cts_model.specs.declared.circuit.Circuit.{Circuit}
-use Rattle.cts_model.specs.declared.tech.Tech.{Tech}
-use Rattle.cts_model.specs.declared.schedule.Lead.{Lead}
+use Rattle.cts_model.specs.Types.{Circuit, Tech, Lead}
 use Rattle.cts_model.specs.timing.Constraints.{IsConstraintOf}
 use Rattle.cts_model.specs.timing.Leads.{EachShowsEarliest}
 use Rattle.cts_model.specs.timing.Schedules.{arrival_of, AreFromZero, AreLeastArrivals}

@@ -3,9 +3,7 @@
 -- Algorithms", 2001.
 use Rattle.std.specs.Prelude.{◌≡◌, ◌<◌, ◌+◌, ℕ, ℤ, pos, ◌-ℤ◌, ◌*ℤ◌, ◌<ℤ◌, List, length, slice_index_or}
 use Rattle.cts_base.specs.declared.fraction.Fraction.{Fraction}
-use Rattle.cts_model.specs.declared.constraint.Constraint.{Constraint}
-use Rattle.cts_model.specs.declared.schedule.Lead.{Lead}
-use Rattle.cts_model.specs.declared.schedule.Lead.TheVariants.{Zero, Tight}
+use Rattle.cts_model.specs.Types.{Constraint, Lead, Zero, Tight}
 use Rattle.cts_model.specs.timing.Constraints.{count_of}
 use Rattle.cts_model.specs.timing.Schedules.{arrival_of}
 

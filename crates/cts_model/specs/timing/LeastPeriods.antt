@@ -2,11 +2,7 @@
 -- Optimization", 1990. Times are in ticks.
 use Rattle.std.specs.Prelude.{◌≡◌, ◌≤◌, ℕ, ℤ, pos, ◌*ℤ◌, ◌<ℤ◌, List, All, nat_abs}
 use Rattle.cts_base.specs.declared.fraction.Fraction.{Fraction}
-use Rattle.cts_model.specs.declared.circuit.Circuit.{Circuit}
-use Rattle.cts_model.specs.declared.tech.Tech.{Tech}
-use Rattle.cts_model.specs.declared.constraint.Constraint.{Constraint}
-use Rattle.cts_model.specs.declared.period.PeriodShow.{PeriodShow}
-use Rattle.cts_model.specs.declared.period.PeriodShow.TheVariants.{Cycle, Floor}
+use Rattle.cts_model.specs.Types.{Circuit, Tech, Constraint, PeriodShow, Cycle, Floor}
 use Rattle.cts_model.specs.timing.Timing.{IsAdmitted, IsLeastPeriod}
 use Rattle.cts_model.specs.timing.Constraints.{IsConstraintOf}
 use Rattle.cts_model.specs.timing.Cycles.{ShowsPeriod, ForbidsPeriods}

@@ -1,10 +1,7 @@
 -- The pairs of registers that some path joins, each with its delays in ticks.
 use Rattle.std.specs.Prelude.{◌≡◌, ◌<◌, ℕ, List, length, All, AllPairs, Any}
-use Rattle.cts_model.specs.declared.circuit.Circuit.{Circuit}
-use Rattle.cts_model.specs.declared.tech.Tech.{Tech}
-use Rattle.cts_model.specs.declared.timing.PairDelay.{PairDelay}
-use Rattle.cts_model.specs.declared.timing.ZeroSkew.{ZeroSkew}
-use Rattle.cts_model.specs.declared.timing.ZeroSkew.TheVariants.{Fails, Floor, Setup}
+use Rattle.cts_model.specs.Types.{Circuit, Tech, PairDelay, ZeroSkew, Fails, Setup}
+use Rattle.cts_model.specs.declared.timing.ZeroSkew.TheVariants.{Floor}
 use Rattle.cts_model.specs.table.Tables.{IsWithin}
 use Rattle.cts_model.specs.netlist.Paths.{IsPath}
 use Rattle.cts_model.specs.timing.EqualArrivals.{IsPairDelay, ComesBefore}

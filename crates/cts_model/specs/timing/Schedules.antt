@@ -2,9 +2,7 @@
 -- 1990. The period and the arrivals are in ticks over a denominator.
 use Rattle.std.specs.Prelude.{◌≡◌, ◌<◌, ◌≤◌, ◌*◌, ◌^◌, ℕ, ℤ, pos, ◌*ℤ◌, ◌≤ℤ◌, ◌<ℤ◌, List, length, nat_abs, slice_index_or}
 use Rattle.cts_base.specs.declared.fraction.Fraction.{Fraction}
-use Rattle.cts_model.specs.declared.circuit.Circuit.{Circuit}
-use Rattle.cts_model.specs.declared.tech.Tech.{Tech}
-use Rattle.cts_model.specs.declared.schedule.Schedule.{Schedule}
+use Rattle.cts_model.specs.Types.{Circuit, Tech, Schedule}
 use Rattle.cts_model.specs.timing.Timing.{Meets}
 
 -- the arrival at a register

@@ -2,10 +2,7 @@
 -- are in ticks over a scale.
 use Rattle.std.specs.Prelude.{◌≡◌, ◌^◌, ℕ, ℤ, pos, ◌+ℤ◌, ◌-ℤ◌, ◌*ℤ◌, ◌≤ℤ◌, List, length, Option, Some, None, slice_get, nat_abs}
 use Rattle.cts_base.specs.declared.fraction.Fraction.{Fraction}
-use Rattle.cts_model.specs.declared.circuit.Circuit.{Circuit}
-use Rattle.cts_model.specs.declared.tech.Tech.{Tech}
-use Rattle.cts_model.specs.declared.schedule.Schedule.{Schedule}
-use Rattle.cts_model.specs.declared.schedule.Slack.{Slack}
+use Rattle.cts_model.specs.Types.{Circuit, Tech, Schedule, Slack}
 use Rattle.cts_model.specs.timing.Delays.{least_delay, greatest_delay}
 use Rattle.cts_model.specs.netlist.Paths.{IsPath}
 use Rattle.cts_model.specs.placement.Points.{IsBelow}

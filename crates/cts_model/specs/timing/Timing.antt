@@ -1,8 +1,7 @@
 -- When a period admits arrival times. Fishburn, "Clock Skew Optimization", 1990. Times are in ticks
 -- over a scale: the period is period / scale, and register i's arrival is arrival i / scale.
 use Rattle.std.specs.Prelude.{ℕ, ◌≤◌, ℤ, pos, ◌+ℤ◌, ◌*ℤ◌, ◌≤ℤ◌, ◌<ℤ◌, List}
-use Rattle.cts_model.specs.declared.circuit.Circuit.{Circuit}
-use Rattle.cts_model.specs.declared.tech.Tech.{Tech}
+use Rattle.cts_model.specs.Types.{Circuit, Tech}
 use Rattle.cts_model.specs.netlist.Paths.{IsPath}
 use Rattle.cts_model.specs.timing.Delays.{least_delay, greatest_delay}
 

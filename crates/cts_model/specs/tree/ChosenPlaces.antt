@@ -1,9 +1,7 @@
 -- Where a node of the tree stands, and how far the source has to reach: deferred merging as in
 -- Boese and Kahng 1992 and Chao and others 1992. In rotated coordinates and grid steps.
 use Rattle.std.specs.Prelude.{◌≡◌, ◌⊎◌, ℕ, ◌+◌, ℤ, pos, ◌+ℤ◌, ◌*ℤ◌, ◌≤ℤ◌, List, Contains, Some, length, slice_get}
-use Rattle.cts_model.specs.declared.place.Sink.{Sink}
-use Rattle.cts_model.specs.declared.place.Uv.{Uv}
-use Rattle.cts_model.specs.declared.tree.Merge.{Merge}
+use Rattle.cts_model.specs.Types.{Sink, Uv, Merge}
 use Rattle.cts_model.specs.tree.Embeddings.{Embedding}
 use Rattle.cts_model.specs.placement.Points.{apart, rotated, rotated_distance}
 use Rattle.cts_model.specs.tree.Regions.{InRegion, IsReach}

@@ -2,8 +2,7 @@
 -- the way (snaking): Boese and Kahng 1992; Chao and others 1992. Coordinates are grid steps.
 use Rattle.std.specs.Prelude.{◌≡◌, ◌≢◌, ◌⊎◌, ℕ, ◌<◌, ◌≤◌, ◌-◌, List, [], ◌∷◌, length, drop, All, AllPairs, Some, slice_get, ℤ, pos, ◌+ℤ◌, ◌*ℤ◌, ◌≤ℤ◌}
 use Rattle.std.specs.Int.{int_max, int_min}
-use Rattle.cts_model.specs.declared.place.Point.{Point}
-use Rattle.cts_model.specs.declared.tree.Wire.{Wire}
+use Rattle.cts_model.specs.Types.{Point, Wire}
 use Rattle.cts_model.specs.placement.Points.{distance}
 
 -- a straight part of a wire, from one point of it to the next

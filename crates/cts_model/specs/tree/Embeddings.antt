@@ -2,11 +2,7 @@
 -- distance is a detour: Boese and Kahng 1992; Chao and others 1992. Places and lengths are
 -- numerators over a scale, in grid steps, so that all fractions are meant.
 use Rattle.std.specs.Prelude.{◌≡◌, ℕ, zero, suc, ◌≤◌, ℤ, pos, ◌+ℤ◌, ◌*ℤ◌, ◌≤ℤ◌, List, length, IfSome, slice_get, slice_index_or}
-use Rattle.cts_model.specs.declared.place.Point.{Point}
-use Rattle.cts_model.specs.declared.place.Sink.{Sink}
-use Rattle.cts_model.specs.declared.place.Uv.{Uv}
-use Rattle.cts_model.specs.declared.tree.Merge.{Merge}
-use Rattle.cts_model.specs.declared.tree.Tree.{Tree}
+use Rattle.cts_model.specs.Types.{Point, Sink, Uv, Merge, Tree}
 use Rattle.cts_model.specs.placement.Points.{distance, scaled, rotated}
 use Rattle.cts_model.specs.tree.Topologies.{IsParent, source_of}
 

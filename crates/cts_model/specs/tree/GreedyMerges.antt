@@ -2,8 +2,7 @@
 -- Edahiro, "A Clustering-Based Optimization Algorithm in Zero-Skew Routings", 1993; Chao and others
 -- 1992.
 use Rattle.std.specs.Prelude.{◌≡◌, ◌⊎◌, ℕ, ◌<◌, ℤ, ◌+ℤ◌, ◌-ℤ◌, ◌<ℤ◌, List, ◌++◌, length, take, Some, slice_get, ◌+◌}
-use Rattle.cts_model.specs.declared.place.Sink.{Sink}
-use Rattle.cts_model.specs.declared.tree.Merge.{Merge}
+use Rattle.cts_model.specs.Types.{Sink, Merge}
 use Rattle.cts_model.specs.tree.Regions.{IsReach}
 use Rattle.cts_model.specs.tree.Topologies.{IsMerge, sinks_below}
 

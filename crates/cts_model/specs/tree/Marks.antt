@@ -1,6 +1,6 @@
 -- Marks of the nodes that merges have joined, one for each node.
 use Rattle.std.specs.Prelude.{◌≡◌, ◌≢◌, ◌<◌, ◌↔◌, ℕ, Bool, false, List, length, All, slice_index_or}
-use Rattle.cts_model.specs.declared.tree.Merge.{Merge}
+use Rattle.cts_model.specs.Types.{Merge}
 
 -- the merge doesn't join the node
 abbrev pub IsUnjoined : (node : ℕ) → Merge → Type 0

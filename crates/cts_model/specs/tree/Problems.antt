@@ -2,11 +2,7 @@
 -- others 1992. Places are given in micros, millionths of a length unit.
 use Rattle.std.specs.Prelude.{◌≡◌, ◌≢◌, ◌↔◌, ◌^◌, ◌*◌, ℕ, ℤ, pos, ◌*ℤ◌, neg_ℤ, IsTrue, List, [], ◌∷◌, length, All}
 use Rattle.cts_base.specs.declared.fraction.Fraction.{Fraction}
-use Rattle.cts_model.specs.declared.circuit.Circuit.{Circuit}
-use Rattle.cts_model.specs.declared.place.Places.{Places}
-use Rattle.cts_model.specs.declared.place.Point.{Point}
-use Rattle.cts_model.specs.declared.place.Sink.{Sink}
-use Rattle.cts_model.specs.declared.tech.Tech.{Tech}
+use Rattle.cts_model.specs.Types.{Circuit, Places, Point, Sink, Tech}
 use Rattle.cts_model.specs.netlist.Circuits.{has_host}
 use Rattle.cts_model.specs.timing.Delays.{delay_of}
 use Rattle.cts_model.specs.netlist.Kinds.{is_gate}

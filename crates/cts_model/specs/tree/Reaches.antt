@@ -3,9 +3,7 @@
 -- 1992; Chao and others 1992.
 use Rattle.std.specs.Prelude.{◌≡◌, ℕ, ◌<◌, ◌+◌, ℤ, pos, ◌+ℤ◌, ◌*ℤ◌, ◌≤ℤ◌, List, length, IfSome, slice_get}
 use Rattle.std.specs.Option.{option_map_or}
-use Rattle.cts_model.specs.declared.place.Sink.{Sink}
-use Rattle.cts_model.specs.declared.place.Uv.{Uv}
-use Rattle.cts_model.specs.declared.tree.Merge.{Merge}
+use Rattle.cts_model.specs.Types.{Sink, Uv, Merge}
 use Rattle.cts_model.specs.tree.ChosenPlaces.{IsSourceReach}
 use Rattle.cts_model.specs.tree.Embeddings.{Embedding, total_length}
 use Rattle.cts_model.specs.tree.Regions.{IsReach}

@@ -2,9 +2,7 @@
 -- Boese and Kahng 1992; Chao and others 1992. Lengths are numerators over a scale, in grid steps.
 use Rattle.std.specs.Prelude.{◌≡◌, ◌<◌, ℕ, ℤ, pos, ◌-ℤ◌, ◌*ℤ◌, List, length}
 use Rattle.cts_base.specs.declared.fraction.Fraction.{Fraction}
-use Rattle.cts_model.specs.declared.schedule.Schedule.{Schedule}
-use Rattle.cts_model.specs.declared.tech.Tech.{Tech}
-use Rattle.cts_model.specs.declared.tree.Merge.{Merge}
+use Rattle.cts_model.specs.Types.{Schedule, Tech, Merge}
 use Rattle.cts_model.specs.tree.Embeddings.{AreWiresDown, Embedding}
 use Rattle.cts_model.specs.tree.Problems.{grid_of}
 use Rattle.cts_model.specs.timing.Schedules.{arrival_of}

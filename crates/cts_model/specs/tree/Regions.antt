@@ -3,8 +3,7 @@
 -- neither the order nor a repetition matters. Where a scale is given, the point and the radius are
 -- numerators over it, so that all fractions are meant.
 use Rattle.std.specs.Prelude.{◌≡◌, ◌⊎◌, ℕ, List, [], ◌∷◌, Contains, ℤ, pos, ◌+ℤ◌, ◌-ℤ◌, ◌*ℤ◌, ◌≤ℤ◌}
-use Rattle.cts_model.specs.declared.place.Sink.{Sink}
-use Rattle.cts_model.specs.declared.place.Uv.{Uv}
+use Rattle.cts_model.specs.Types.{Sink, Uv}
 use Rattle.cts_model.specs.placement.Points.{scaled, rotated_distance}
 
 -- the distance of two sinks with both offsets: no node above both has a reach below half of it

@@ -2,10 +2,7 @@
 -- and the source, that are furthest apart. Boese and Kahng 1992; Chao and others 1992. The reach of
 -- a node is how long the wire from it down to any of its sinks is, with that sink's offset.
 use Rattle.std.specs.Prelude.{◌≡◌, ℕ, ◌<◌, ◌≤◌, ◌+◌, ℤ, ◌+ℤ◌, ◌-ℤ◌, List, length, Contains, IfSome, IsSomeAnd, slice_get}
-use Rattle.cts_model.specs.declared.place.Sink.{Sink}
-use Rattle.cts_model.specs.declared.place.Uv.{Uv}
-use Rattle.cts_model.specs.declared.tree.Merge.{Merge}
-use Rattle.cts_model.specs.declared.tree.Show.{Show}
+use Rattle.cts_model.specs.Types.{Sink, Uv, Merge, Show}
 use Rattle.cts_model.specs.declared.tree.Show.TheVariants as shows
 use Rattle.cts_model.specs.placement.Points.{rotated_distance}
 use Rattle.cts_model.specs.tree.Regions.{span}

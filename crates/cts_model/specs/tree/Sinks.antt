@@ -1,6 +1,6 @@
 -- Sinks as clock trees are made over them. Boese and Kahng 1992; Chao and others 1992.
 use Rattle.std.specs.Prelude.{◌^◌, ◌≤◌, List, All, length}
-use Rattle.cts_model.specs.declared.place.Sink.{Sink}
+use Rattle.cts_model.specs.Types.{Sink}
 use Rattle.cts_model.specs.placement.Points.{IsBelow, IsMultipleOf, IsUvBelow, IsUvMultipleOf}
 
 -- place and offset are whole numbers of 8 grid steps, so that no halving on the way up is lost

@@ -2,12 +2,7 @@
 -- Chao and others 1992. Each law is the clause of a function of the module laws.
 use Rattle.std.specs.Prelude.{◌≡◌, ℕ, ◌≤◌, ℤ, pos, ◌*ℤ◌, ◌≤ℤ◌, List, length, nat_abs}
 use Rattle.cts_base.specs.declared.fraction.Fraction.{Fraction}
-use Rattle.cts_model.specs.declared.circuit.Circuit.{Circuit}
-use Rattle.cts_model.specs.declared.place.Point.{Point}
-use Rattle.cts_model.specs.declared.place.Uv.{Uv}
-use Rattle.cts_model.specs.declared.schedule.Schedule.{Schedule}
-use Rattle.cts_model.specs.declared.tech.Tech.{Tech}
-use Rattle.cts_model.specs.declared.tree.Merge.{Merge}
+use Rattle.cts_model.specs.Types.{Circuit, Point, Uv, Schedule, Tech, Merge}
 use Rattle.cts_model.specs.tree.Embeddings.{Embedding, IsEmbedding, IsLeastWire, RealisesOffsets, total_wire}
 use Rattle.cts_model.specs.tree.Problems.{sinks_of}
 use Rattle.cts_model.specs.tree.RealisedSchedules.{RealisesSchedule}

@@ -4,8 +4,7 @@
 -- 1.
 use Rattle.std.specs.Prelude.{◌≡◌, ◌≢◌, ◌⊎◌, ℕ, ◌<◌, ◌+◌, ◌-◌, ◌*◌, List, [], ◌∷◌, ◌++◌, map, length, take, All, IsSomeAnd, Some, slice_get, slice_index_or, filter_map}
 use Rattle.std.specs.List.{range_with_len}
-use Rattle.cts_model.specs.declared.place.Sink.{Sink}
-use Rattle.cts_model.specs.declared.tree.Merge.{Merge}
+use Rattle.cts_model.specs.Types.{Sink, Merge}
 
 abbrev pub root_of : (sinks : ℕ) → ℕ
 root_of sinks = 2 * sinks - 2

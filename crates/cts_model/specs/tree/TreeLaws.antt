@@ -1,9 +1,7 @@
 -- What the shows of a tree say of all trees with its topology and its sinks' offsets. Boese and
 -- Kahng 1992; Chao and others 1992. Each law is the clause of a function of the module laws.
 use Rattle.std.specs.Prelude.{◌≡◌, ℕ, ◌+◌, ℤ, pos, ◌+ℤ◌, ◌-ℤ◌, ◌*ℤ◌, List, length}
-use Rattle.cts_model.specs.declared.place.Sink.{Sink}
-use Rattle.cts_model.specs.declared.place.Uv.{Uv}
-use Rattle.cts_model.specs.declared.tree.Merge.{Merge}
+use Rattle.cts_model.specs.Types.{Sink, Uv, Merge}
 use Rattle.cts_model.specs.tree.Embeddings.{Embedding, IsEmbedding, RealisesOffsets, IsLeastWire, total_length, total_wire}
 use Rattle.cts_model.specs.tree.Reaches.{HasReaches, AreNoLess, total_offset}
 use Rattle.cts_model.specs.tree.ShownReaches.{AreReaches, AreShown}

@@ -1,8 +1,7 @@
 -- Ways down a clock tree, and the reaches of its nodes. Boese and Kahng 1992; Chao and others 1992.
 -- An edge has the number of its lower node.
 use Rattle.std.specs.Prelude.{◌≡◌, ℕ, ℤ, pos, ◌+ℤ◌, List, [], ◌∷◌, length, Some, slice_get}
-use Rattle.cts_model.specs.declared.place.Sink.{Sink}
-use Rattle.cts_model.specs.declared.tree.Merge.{Merge}
+use Rattle.cts_model.specs.Types.{Sink, Merge}
 use Rattle.cts_model.specs.tree.Topologies.{IsParent}
 
 -- the nodes lead down from the one node to the other: each is the parent of the next

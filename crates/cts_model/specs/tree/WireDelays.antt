@@ -3,8 +3,7 @@
 -- length unit has so many grid steps.
 use Rattle.std.specs.Prelude.{ℕ, ℤ, ◌*ℤ◌, nat_abs}
 use Rattle.cts_base.specs.declared.fraction.Fraction.{Fraction}
-use Rattle.cts_model.specs.declared.circuit.Circuit.{Circuit}
-use Rattle.cts_model.specs.declared.tech.Tech.{Tech}
+use Rattle.cts_model.specs.Types.{Circuit, Tech}
 use Rattle.cts_model.specs.tree.Problems.{grid_of}
 use Rattle.cts_model.specs.timing.Timing.{Meets}
 

@@ -1,7 +1,7 @@
 //! What the files of several corners tell: a circuit, and the delays of each corner.
 
 ghost use Rattle.std.specs.Prelude.{◌≡◌, ◌≤◌, ◌∷◌, ℕ, List, length, map, string_bytes, IfOk};
-ghost use Rattle.cts_model.specs.netlist.Paths.{IsLoop};
+ghost use Rattle.cts_model.specs.Vocabulary.{IsLoop};
 ghost use Rattle.failure_lines.specs.declared.file_kind.FileKind.TheVariants as kinds;
 ghost use Rattle.cts_program.specs.Files.{corner_files};
 ghost use Rattle.cts_program.specs.Steps.{AreUnread, IsStep, TellCorners};

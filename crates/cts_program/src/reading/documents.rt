@@ -1,10 +1,9 @@
 //! The kinds of files that commands read.
 
 ghost use Rattle.std.specs.Prelude.{◌≡◌, ◌++◌, ◌∷◌, [], ℕ, IsTrue, List, length, All};
-ghost use Rattle.cts_model.specs.tree.Topologies.{IsTopology};
+ghost use Rattle.cts_model.specs.Vocabulary.{IsTopology, IsOfSize, IsWithinBounds};
 ghost use Rattle.failure_lines.specs.declared.file_kind.FileKind.TheVariants as kinds;
 ghost use Rattle.cts_program.specs.MoveSteps.{IsNearMove};
-ghost use Rattle.cts_model.specs.report.ReportBounds.{IsOfSize, IsWithinBounds};
 ghost use Rattle.cts_program.specs.Documents.{DiffersFromFirst};
 ghost use Rattle.cts_program.specs.Steps.{AreServed, IsBare};
 ghost use Rattle.cts_program.specs.Told.{nothing, bare, timed, placed, reported, joined, moving};

@@ -1,5 +1,5 @@
 use Rattle.std.proofs.Common.{◌≡◌, ◌∙◌, subst, sym}
-use Rattle.cts_model.specs.timing.Schedules.{IsMarginPeriod}
+use Rattle.cts_model.specs.Vocabulary.{IsMarginPeriod}
 use Rattle.command_line.proofs.PeriodWords.{period_has, period_spelled}
 use Rattle.cts_program.proofs.answers.fraction.Goals as goal
 

@@ -1,6 +1,6 @@
 use Rattle.std.proofs.Common.{◌<◌, ◌++◌, ◌∷◌, [], length, sym, ap, ◌∙◌, rules, arith}
 use Rattle.std.proofs.lemmas.List.FromFn.{map-range_with_len_more}
-use Rattle.cts_model.specs.netlist.Paths.{register_name}
+use Rattle.cts_model.specs.Vocabulary.{register_name}
 use Rattle.name_set.proofs.NameNumbers.{register_new, registers_few}
 use Rattle.name_set.proofs.registers.register_names.Goals as goal
 
