@@ -1,10 +1,17 @@
 -- The wires of a tree, drawn merge by merge.
+use Rattle.std.proofs.Common.{IsSomeAnd, Option, None}
 use Rattle.cts_engine.proofs.Vocabulary.{◌≡◌, ◌≢◌, ◌⊎◌, ◌<◌, ◌≤◌, ◌+◌, ◌*◌, ℕ, List, length, get_or, Some, inl, inr, refl, sym, ap, subst, ◌∙◌, arith, All, slice_get, cases_eq, cases_lt, get_or-set_same, get_or-set_other, length-set, slice_get_within, slice_get-get_or, get_or_from_slice_get, Merge, Tree, Wire, embedding_of, IsSmallWire, IsParent, IsTopology, Joins, root_of, source_of, joined_by, made_parent, one_parent, first_made, merge_at, merge_here, second_made, some_and, AreDrawn, IsEdgeDrawn, IsWireOf}
 
 -- the wire at the node's number is drawn from the parent
 abbrev pub HasWire : Tree → (node parent : ℕ) → List Wire → Type 0
-HasWire tree node parent wires = (wire : Wire) → slice_get wires node ≡ Some wire
-    → IsWireOf (embedding_of tree) node parent wire
+HasWire tree node parent wires =
+    IsSomeAnd (slice_get wires node) (IsWireOf (embedding_of tree) node parent)
+
+-- what is there has what each such thing has
+some_then : {X : Type 0} (found : Option X) {Has Gets : X → Type 0} → IsSomeAnd found Has
+    → ((x : X) → Has x → Gets x) → IsSomeAnd found Gets
+some_then (Some x) has gets = gets x has
+some_then None has gets = absurd has
 
 -- there is a wire for each node, and those are drawn whose parents are made before a place
 pub record AreDrawnBefore (sinks : ℕ) (merges : List Merge) (tree : Tree) (place next : ℕ)
@@ -45,20 +52,23 @@ module _ {tree : Tree} {node parent : ℕ} {old new : List Wire}
 
   -- the node has its wire
   pub drawn_here : HasWire tree node parent new
-  drawn_here wire found = subst (IsWireOf (embedding_of tree) node parent)
-      (sym (ap (λ wires. get_or wires node wire) drawn.rest
-      ∙ get_or-set_same old node drawn.wire wire within)
-      ∙ get_or_from_slice_get new node wire wire found) drawn.is
+  drawn_here = subst (λ found. IsSomeAnd found (IsWireOf (embedding_of tree) node parent))
+      (sym (slice_get-get_or new node drawn.wire (omega (arith, within, drawn_all))
+      ∙ ap Some (ap (λ wires. get_or wires node drawn.wire) drawn.rest
+      ∙ get_or-set_same old node drawn.wire drawn.wire within))) drawn.is
 
   -- and the others keep theirs
   pub drawn_other : (other up : ℕ) → other ≢ node → HasWire tree other up old
       → HasWire tree other up new
-  drawn_other other up apart had wire found =
-      let here = slice_get_within new other wire found in
-      had wire (slice_get-get_or old other wire (omega (arith, here, drawn_all))
-      ∙ ap Some (sym (ap (λ wires. get_or wires other wire) drawn.rest
-      ∙ get_or-set_other old node other drawn.wire wire apart)
-      ∙ get_or_from_slice_get new other wire wire found))
+  drawn_other other up apart had =
+      let (wire, found, is) = some_and (slice_get old other)
+      (IsWireOf (embedding_of tree) other up) had in
+      let here = slice_get_within old other wire found in
+      subst (λ found. IsSomeAnd found (IsWireOf (embedding_of tree) other up))
+      (sym (slice_get-get_or new other wire (omega (arith, here, drawn_all))
+      ∙ ap Some (ap (λ wires. get_or wires other wire) drawn.rest
+      ∙ get_or-set_other old node other drawn.wire wire apart
+      ∙ get_or_from_slice_get old other wire wire found))) is
 
 module _ {sinks : ℕ} {merges : List Merge} (topology : IsTopology sinks merges) {tree : Tree} where
   -- there is a wire for each node that a merge joins
@@ -137,8 +147,8 @@ module _ {sinks : ℕ} {merges : List Merge} (topology : IsTopology sinks merges
       → IsEdgeDrawn tree (root_of sinks) (source_of sinks) old new
       → AreDrawn sinks merges (embedding_of tree) new
   all_drawn place next old new past before last = record {
-    drawn = λ node up wire is found. (each node up is wire found).drawn;
-    points = λ node up wire is found. (each node up is wire found).points;
+    drawn = λ node up is. some_then (slice_get new node) (each node up is) (λ wire is. is.drawn);
+    points = λ node up is. some_then (slice_get new node) (each node up is) (λ wire is. is.points);
   }
     where
       low : root_of sinks < length old

@@ -122,6 +122,8 @@ module _ (problem : Problem) (report : Report) {constraints : List Constraint}
     is = record {
       least_period = least.least;
       least_schedule = times.schedule;
+      topology = made.tree.topology;
+      embedded = made.tree.placed.embedded;
       realises = realises;
       meets = realised_meets problem.circuit problem.tech report.period report.topology.merges
           report.schedule (embedding_of report.tree) times.schedule.registers
@@ -140,7 +142,6 @@ module _ (problem : Problem) (report : Report) {constraints : List Constraint}
       placed = made.tree.placed;
       points = made.tree.drawn.points;
     };
-    merges = made.tree.topology;
     least = made.tree.least;
     given = refl;
   }

@@ -138,14 +138,13 @@ module _ (problem : Problem) (report : Report) (is : IsSynthesis problem report)
   is_shown_least : IsShownLeast problem.circuit problem.tech report
   is_shown_least = search (arith, given_paths, led)
 
-  is_shown_tree : IsTopology (length (sinks_in problem report)) report.topology.merges
-      → IsShownTree (sinks_in problem report) (source_in problem report) report
-  is_shown_tree merges = record {
-    shape = λ node within. has_shape merges shows.placed node;
+  is_shown_tree : IsShownTree (sinks_in problem report) (source_in problem report) report
+  is_shown_tree = record {
+    shape = λ node within. has_shape is.topology shows.placed node;
     long_enough = λ edge within parent is. shows.placed.embedded.long_enough edge parent is;
-    drawn = λ edge within parent wire joins here. is.drawn edge parent wire joins here;
-    skewed = is_skewed merges shows.placed;
-    reaches = λ node within. is_reach_shown merges shows.placed node;
+    drawn = λ edge within parent wire joins here. rw here at is.drawn edge parent joins;
+    skewed = is_skewed is.topology shows.placed;
+    reaches = λ node within. is_reach_shown is.topology shows.placed node;
     total = is.total;
   }
 

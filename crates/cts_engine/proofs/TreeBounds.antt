@@ -203,8 +203,8 @@ pub source_begins : (sinks : ℕ) (merges : List Merge) (tree : Tree) (wires : L
 source_begins sinks merges tree wires some lists drawn small wire found =
     let origin : Point = record { x = pos 0; y = pos 0 } in
     let place = (embedding_of tree).place (source_of sinks) in
-    let begins = (drawn.drawn (root_of sinks) (source_of sinks) wire (root_parent sinks merges)
-    found).begins in
+    let begins = (rw found at drawn.drawn (root_of sinks) (source_of sinks)
+    (root_parent sinks merges)).begins in
     let first = get_or_from_slice_get (take wire.used wire.corners) 0 place origin begins in
     let within = slice_get_within (take wire.used wire.corners) 0 place begins in
     let used : 0 < wire.used = omega (arith, length-take wire.used wire.corners) in

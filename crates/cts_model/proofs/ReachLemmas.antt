@@ -1,5 +1,5 @@
 -- What the reaches of a tree say of its wire, and what they can't be below.
-use Rattle.cts_model.proofs.Vocabulary.{◌≡◌, ℕ, ◌<◌, ◌+◌, ℤ, pos, ◌+ℤ◌, ◌-ℤ◌, ◌*ℤ◌, ◌≤ℤ◌, List, length, inl, inr, refl, sym, ap, subst, ◌∙◌, arith, IfSome, slice_get, option_map_or, ints, slice_get_cases, slice_get_read, IfSome_then, Sink, Uv, Merge, Embedding, IsEmbedding, RealisesOffsets, total_length, total_wire, HasReaches, AreNoLess, total_offset, IsReach, IsTopology, root_of, sinks_below, source_of}
+use Rattle.cts_model.proofs.Vocabulary.{◌≡◌, ℕ, ◌<◌, ◌+◌, ℤ, pos, ◌+ℤ◌, ◌-ℤ◌, ◌*ℤ◌, ◌≤ℤ◌, List, length, inl, inr, refl, sym, ap, subst, ◌∙◌, arith, IfSome, slice_get, option_map_or, ints, slice_get_cases, slice_get_read, IfSome_then, Sink, Uv, Merge, Embedding, IsEmbedding, RealisesOffsets, total_length, total_wire, HasReaches, AreNoLess, total_offset, IsDoubleReach, IsTopology, root_of, sinks_below, source_of}
 use Rattle.cts_model.specs.tree.ChosenPlaces.{IsSourceReach}
 use Rattle.cts_model.proofs.EmbeddingLemmas.{realised, span_low, source_low, root_low}
 use Rattle.cts_model.proofs.ScaleLemmas.{scale-add}
@@ -36,7 +36,7 @@ module _ (scale : ℕ) (sinks : List Sink) (merges : List Merge) (source : Uv) (
 
   -- twice a node's reach is no less than that of its sinks
   node_no_less : (node : ℕ) (twice : ℤ) → node < length sinks + length merges
-      → IsReach (sinks_below sinks merges node) twice
+      → IsDoubleReach (sinks_below sinks merges node) twice
       → (pos scale *ℤ twice) ≤ℤ (reach node +ℤ reach node)
   node_no_less node twice made is =
       let (first, first_in, here) = number_below sinks merges node is.one is.one_among in
@@ -48,7 +48,7 @@ module _ (scale : ℕ) (sinks : List Sink) (merges : List Merge) (source : Uv) (
 
   -- the source's is no less than the root's, nor than any sink's way and offset
   source_no_less : (root least : ℤ)
-      → IsReach (sinks_below sinks merges (root_of (length sinks))) (root +ℤ root)
+      → IsDoubleReach (sinks_below sinks merges (root_of (length sinks))) (root +ℤ root)
       → IsSourceReach sinks source root least
       → (pos scale *ℤ least) ≤ℤ reach (source_of (length sinks))
   source_no_less root least is_root is = elim is.attained [

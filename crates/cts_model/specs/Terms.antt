@@ -32,11 +32,10 @@ pub use Rattle.cts_model.specs.tree.GreedyMerges.{IsCheaper, IsCheapest, IsDoubl
 pub use Rattle.cts_model.specs.tree.Marks.{AreMarked, IsUnjoined}
 pub use Rattle.cts_model.specs.tree.Problems.{GivesUsedKinds, IsProblem, grid_of, on_grid, scheduled_length, sink_of, sinks_of, steps_of_micro}
 pub use Rattle.cts_model.specs.tree.Reaches.{AreNoLess, HasReaches, total_offset}
-pub use Rattle.cts_model.specs.tree.RealisedSchedules.{RealisesSchedule}
-pub use Rattle.cts_model.specs.tree.Regions.{InRegion, IsGreatestSpan, IsReach, IsUnion, MeetTwoByTwo, span}
+pub use Rattle.cts_model.specs.tree.RealisedSchedules.{IsLeastForSchedule, RealisesSchedule}
+pub use Rattle.cts_model.specs.tree.Regions.{InRegion, IsGreatestSpan, IsDoubleReach, IsUnion, MeetTwoByTwo, span}
 pub use Rattle.cts_model.specs.tree.ShownReaches.{AreReaches, AreShown, AreShownBy, IsPairShow, ShowsMerge, ShowsSource}
 pub use Rattle.cts_model.specs.tree.Sinks.{AreTreeSinks, IsTreeSink}
-pub use Rattle.cts_model.specs.tree.SkewLaws.{IsLeastForSchedule}
 pub use Rattle.cts_model.specs.tree.Topologies.{IsLive, IsMerge, IsParent, IsTopology, Joins, numbers_below, root_of, sinks_below, source_of}
 pub use Rattle.cts_model.specs.tree.WaysDown.{IsReachDown}
 pub use Rattle.cts_model.specs.tree.WireDelays.{MeetsByWire}

@@ -4,7 +4,7 @@ ghost use Rattle.cts_model.specs.declared.place.Point as model;
 
 use cts_base::Listed;
 
-/// A point of the plane.
+/// A point of the plane: in millionths of a length unit where it is given, in grid steps in a tree.
 #[derive(Clone, Copy, Debug, PartialEq, Eq)]
 pub struct Point {
     /// Rightwards.

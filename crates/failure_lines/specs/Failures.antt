@@ -30,10 +30,6 @@ status_of (ReadFault kind) = 4
 status_of WriteFault = 5
 status_of NoMemory = 6
 
--- names, each after a space
-abbrev pub spaced : List (List ℕ) → List ℕ
-spaced names = flat_map (λ name. 32 ∷ name) names
-
 -- the word for a limit, after a space
 abbrev pub limit_word : Which → List ℕ
 limit_word Name = codes " name"
@@ -64,7 +60,7 @@ words_text (Number line fault) = codes " line " ++ decimal line ++ number_word f
 words_text (Key key) = codes " " ++ shown key
 words_text (Gate gate) = codes " " ++ word_of gate
 words_text (Register name) = codes " " ++ name
-words_text (Loop names) = spaced names
+words_text (Loop names) = flat_map (λ name. 32 ∷ name) names
 words_text (Place place) = codes " " ++ decimal place
 
 -- what the reasons say of a report, from that of number 1, each after a space

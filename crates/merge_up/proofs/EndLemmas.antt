@@ -1,7 +1,7 @@
 -- The furthest sinks of a set to the four sides, and what they say of its reach and its shows.
 use Rattle.merge_up.proofs.Vocabulary.{◌≡◌, ℕ, ◌≤◌, inl, inr, min, max, List, [], ◌∷◌, ◌++◌, Contains, Some, slice_get, filter_map, ℤ, ◌+ℤ◌, ◌-ℤ◌, neg_ℤ, ◌≤ℤ◌, sym, subst, ◌∙◌, arith, ints, clamps, to_z-of_z, Contains-append_left, Contains-append_right, filter_map-append, int_max, w128, kept, below_fits, Sink, cases_lt, ShowsMerge, sinks_of_u_show, sinks_of_v_show, span_is_symmetric, spread_is_reach, found_among, some_and, Extremes, IsExtremes, IsGreatest, IsLeastOf, spread, u_below, v_below, End, Ends, IsEnd, AreEnds, extremes_of, pair_of, u_back, v_back}
 use Rattle.tilted_rect.specs.Corners.{IsRect, IsSide}
-use Rattle.cts_model.specs.Vocabulary.{span, IsReach}
+use Rattle.cts_model.specs.Vocabulary.{span, IsDoubleReach}
 use Rattle.tilted_rect.proofs.ExtremeLemmas.{append_is_union, greatest_one, greatest_union}
 
 -- ---- one side
@@ -138,7 +138,7 @@ u_ends_show sinks numbers reach ends are twice wider =
     let set = filter_map (slice_get sinks) numbers in
     let all : Extremes = extremes_of ends in
     let is : spread all ≡ all.greatest_u -ℤ all.least_u = omega (arith, ints, clamps, wider) in
-    let reached = subst (IsReach set) is
+    let reached = subst (IsDoubleReach set) is
     (spread_is_reach set all (ends_are_extremes sinks numbers ends are)) in
     ends_show reach are.high_u are.low_u (λ one other among also at back. twice ∙ is
     ∙ sym (sinks_of_u_show set all one other reached among also at (omega (arith, ints, back))))
@@ -152,7 +152,7 @@ v_ends_show sinks numbers reach ends are twice wider =
     let set = filter_map (slice_get sinks) numbers in
     let all : Extremes = extremes_of ends in
     let is : spread all ≡ all.greatest_v -ℤ all.least_v = omega (arith, ints, clamps, wider) in
-    let reached = subst (IsReach set) is
+    let reached = subst (IsDoubleReach set) is
     (spread_is_reach set all (ends_are_extremes sinks numbers ends are)) in
     ends_show reach are.high_v are.low_v (λ one other among also at back. twice ∙ is
     ∙ sym (sinks_of_v_show set all one other reached among also at (omega (arith, ints, back))))

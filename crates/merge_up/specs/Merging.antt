@@ -1,7 +1,7 @@
 -- The reaches, regions and shows of a topology's nodes, as a room holds them: Boese and Kahng 1992;
 -- Chao and others 1992.
 use Rattle.std.specs.Prelude.{◌≡◌, ℕ, ◌+◌, ◌-◌, ◌^◌, ◌<◌, Bool, min, false, true, All, IsFalse, List, IsSomeAnd, Some, length, replicate, slice_get, slice_set, ℤ, ◌+ℤ◌}
-use Rattle.cts_model.specs.Vocabulary.{Sink, Merge, Show, IsReach, ShowsMerge, Joins, numbers_below, sinks_below, source_of, Point, Uv, rotated}
+use Rattle.cts_model.specs.Vocabulary.{Sink, Merge, Show, IsDoubleReach, ShowsMerge, Joins, numbers_below, sinks_below, source_of, Point, Uv, rotated}
 use Rattle.tilted_rect.specs.Extremes.{IsRegion}
 use Rattle.tilted_rect.specs.Rects.{HasSides}
 use Rattle.tilted_rect.specs.declared.rect.Rect.{Rect}
@@ -28,7 +28,7 @@ pub record HoldsMerge (sinks : List Sink) (merges : List Merge) (work : WorkStat
   pub reach_held : slice_get work.tree.reach (length sinks + place) ≡ Some reach
   pub region_held : slice_get work.regions (length sinks + place) ≡ Some region
   pub show_held : slice_get work.shows place ≡ Some show
-  pub is_reach : IsReach (sinks_below sinks merges (length sinks + place)) (reach +ℤ reach)
+  pub is_reach : IsDoubleReach (sinks_below sinks merges (length sinks + place)) (reach +ℤ reach)
   pub is_region : IsRegion region (sinks_below sinks merges (length sinks + place)) reach
   pub shows : ShowsMerge sinks (numbers_below (length sinks) merges (length sinks + place)) reach
       show

@@ -1,25 +1,32 @@
 -- What a synthesis makes: the least period, the least schedule, and the tree with the least wire
 -- for its topology that realises the schedule. Fishburn 1990; Boese and Kahng 1992; Chao and others
 -- 1992.
-use Rattle.std.specs.Prelude.{◌≡◌, ℕ, ℤ, List, length, take, Some, slice_get}
-use Rattle.cts_model.specs.Vocabulary.{Point, Problem, Report, Second, Merge, Topology, Wire, ArePathsOf, IsConstraintOf, IsDrawn, Embedding, IsLeastWire, embedding_of, total_wire, IsGreedy, EachLead, IsLeastFraction, IsPeriodShow, RealisesSchedule, IsOfSize, IsWithinBounds, IsLeastSchedule, sinks_in, source_in, IsLeastForSchedule, AreSlacks, IsParent, IsTopology, MeetsByWire}
+use Rattle.std.specs.Prelude.{◌≡◌, ℕ, ℤ, List, length, take, slice_get, IsSomeAnd}
+use Rattle.cts_model.specs.Vocabulary.{Point, Problem, Report, Second, Merge, Topology, Wire, ArePathsOf, IsConstraintOf, IsDrawn, Embedding, IsEmbedding, IsLeastWire, embedding_of, total_wire, IsGreedy, EachLead, IsLeastFraction, IsPeriodShow, RealisesSchedule, IsOfSize, IsWithinBounds, IsLeastSchedule, sinks_in, source_in, IsLeastForSchedule, AreSlacks, IsParent, IsTopology, MeetsByWire}
 pub use Rattle.place_down.specs.Trees.{IsPlacedTree}
 use Rattle.wire_detours.specs.WirePoints.{ArePoints}
 
--- this holds of each edge: of where it leads from and to, its length and the points of its wire
+-- each edge has a wire, and this holds of where it leads from and to, its length and the points of
+-- its wire
 abbrev pub EachEdge : (Holds : Point → Point → ℤ → List Point → Type 0) → (sinks : ℕ)
     → List Merge → Embedding → List Wire → Type 0
-EachEdge Holds sinks merges tree wires = (node parent : ℕ) (wire : Wire)
-    → IsParent sinks merges node parent → slice_get wires node ≡ Some wire
-    → Holds (tree.place parent) (tree.place node) (tree.length node) (take wire.used wire.corners)
+EachEdge Holds sinks merges tree wires = (node parent : ℕ) → IsParent sinks merges node parent
+    → IsSomeAnd (slice_get wires node) (λ wire. Holds (tree.place parent) (tree.place node)
+    (tree.length node) (take wire.used wire.corners))
 
 -- a clock tree for the problem: its period and its schedule are the least, its wire delays have
 -- just the scheduled skews, and its wire is the least for its topology
 pub record IsSynthesis (problem : Problem) (report : Report) : Type 0 where
-  -- some arrivals meet the period and none a smaller one
+  -- some arrivals meet the period, and none a smaller one that isn't below the table's floor
   pub least_period : IsLeastFraction problem.circuit problem.tech report.period
   -- the arrivals of the schedule meet it, and no others from 0 on are earlier
   pub least_schedule : IsLeastSchedule problem.circuit problem.tech report.period report.schedule
+  -- the merges join all registers into one tree
+  pub topology : IsTopology (length (sinks_in problem report)) report.topology.merges
+  -- the registers and the source stand where the placement has them, and no edge is shorter than
+  -- the distance of its ends
+  pub embedded : IsEmbedding 1 (sinks_in problem report) report.topology.merges
+      (source_in problem report) (embedding_of report.tree)
   -- the wire delays from the source differ by exactly the scheduled skews, so every path meets
   -- setup and hold
   pub realises : RealisesSchedule 1 report.period problem.tech report.topology.merges
@@ -28,7 +35,7 @@ pub record IsSynthesis (problem : Problem) (report : Report) : Type 0 where
   -- no embedding of the topology with these skews has less wire, whatever its scale
   pub least_wire : IsLeastForSchedule report.period problem.tech problem.places.registers
       report.schedule report.topology.merges (source_in problem report) report.total
-  -- each wire is drawn, and the total is that of the tree
+  -- each edge has its drawn wire, and the total is that of the tree
   pub drawn : EachEdge IsDrawn (length (sinks_in problem report)) report.topology.merges
       (embedding_of report.tree) report.wires
   pub total : report.total
@@ -55,7 +62,6 @@ pub record IsReportWith (problem : Problem) (topology : Topology) (report : Repo
   pub bounds : IsWithinBounds problem.tech report
   pub is : IsSynthesis problem report
   pub shows : ShowsSynthesis problem report
-  pub merges : IsTopology (length (sinks_in problem report)) report.topology.merges
   pub least : IsLeastWire (sinks_in problem report) report.topology.merges
       (source_in problem report) report.total
   pub given : report.topology ≡ topology

@@ -1,5 +1,5 @@
 -- Where a node may stand below its parent, and how large the numbers of its place are.
-use Rattle.place_down.proofs.Vocabulary.{◌≤◌, ◌≡◌, ℕ, ◌+◌, ◌-◌, ◌*◌, ◌^◌, ◌<◌, inl, inr, ℤ, pos, ◌+ℤ◌, ◌-ℤ◌, ◌*ℤ◌, ◌≤ℤ◌, List, ◌++◌, Some, length, slice_get, refl, sym, subst, arith, Contains, cases_lt, ints, clamps, All-contains, Contains-append_left, Contains-append_right, get_or_from_slice_get, slice_get_cases, Point, Sink, Uv, Merge, IsChosenPlace, IsSourceReach, IsBelow, IsMultipleOf, IsPointBelow, IsUvBelow, apart, scaled, rotated, rotated_distance, InRegion, IsReach, AreTreeSinks, IsTreeSink, IsTopology, Joins, sinks_below, source_of, some_and, sinks_below-sink, sinks_below-merge, sinks_below-among, some_sink, IsMerged, IsPointOf, WorkState, reach_in}
+use Rattle.place_down.proofs.Vocabulary.{◌≤◌, ◌≡◌, ℕ, ◌+◌, ◌-◌, ◌*◌, ◌^◌, ◌<◌, inl, inr, ℤ, pos, ◌+ℤ◌, ◌-ℤ◌, ◌*ℤ◌, ◌≤ℤ◌, List, ◌++◌, Some, length, slice_get, refl, sym, subst, arith, Contains, cases_lt, ints, clamps, All-contains, Contains-append_left, Contains-append_right, get_or_from_slice_get, slice_get_cases, Point, Sink, Uv, Merge, IsChosenPlace, IsSourceReach, IsBelow, IsMultipleOf, IsPointBelow, IsUvBelow, apart, scaled, rotated, rotated_distance, InRegion, IsDoubleReach, AreTreeSinks, IsTreeSink, IsTopology, Joins, sinks_below, source_of, some_and, sinks_below-sink, sinks_below-merge, sinks_below-among, some_sink, IsMerged, IsPointOf, WorkState, reach_in}
 use Rattle.tilted_rect.specs.Extremes.{IsRegion}
 use Rattle.tilted_rect.specs.Rects.{IsNearest}
 use Rattle.tilted_rect.specs.declared.rect.Rect.{Rect}
@@ -55,7 +55,7 @@ point_below point below = record {
 -- a set's reach stays below what its sinks and their distances allow, and is a multiple of 4
 pub reach_small : (set : List Sink) (reach : ℤ)
     → ((sink : Sink) → Contains set sink → IsTreeSink sink)
-    → IsReach set (reach +ℤ reach) → IsBelow (2 * 10 ^ 31) reach × IsMultipleOf 4 reach
+    → IsDoubleReach set (reach +ℤ reach) → IsBelow (2 * 10 ^ 31) reach × IsMultipleOf 4 reach
 reach_small set reach each is =
     let one = each is.one is.one_among in
     let other = each is.other is.other_among in
@@ -98,7 +98,7 @@ region_of_part part whole radius at among region = λ sink in_part. region sink 
 -- the nearest point of a set's region to a point of its wider region is the chosen one, and no
 -- further than the radii differ
 pub chosen_near : (set : List Sink) (rect : Rect) (own wide : ℤ) (at found : Uv)
-    → IsReach set (own +ℤ own) → IsRegion rect set own → InRegion set 1 wide at
+    → IsDoubleReach set (own +ℤ own) → IsRegion rect set own → InRegion set 1 wide at
     → IsNearest rect at found
     → IsChosenPlace set own at found × (rotated_distance at found ≤ℤ (wide -ℤ own))
 chosen_near set rect own wide at found reach region within nearest =
@@ -123,7 +123,7 @@ pub record HoldsNode (sinks : List Sink) (merges : List Merge) (work : WorkState
     (node : ℕ) : Type 0 where
   pub region : Rect
   pub region_held : slice_get work.regions node ≡ Some region
-  pub is_reach : IsReach (sinks_below sinks merges node)
+  pub is_reach : IsDoubleReach (sinks_below sinks merges node)
       (reach_in work.tree node +ℤ reach_in work.tree node)
   pub is_region : IsRegion region (sinks_below sinks merges node) (reach_in work.tree node)
 
@@ -181,14 +181,14 @@ module _ {sinks : List Sink} {merges : List Merge} (are : AreTreeSinks sinks)
 
   -- and so is the reach of the node
   pub reach_of_node : (node : ℕ) (reach : ℤ)
-      → IsReach (sinks_below sinks merges node) (reach +ℤ reach)
+      → IsDoubleReach (sinks_below sinks merges node) (reach +ℤ reach)
       → IsBelow (2 * 10 ^ 31) reach × IsMultipleOf 4 reach
   reach_of_node node reach is =
       reach_small (sinks_below sinks merges node) reach (below_small node) is
 
   -- and where it may stand
   pub place_of_node : (node : ℕ) (reach : ℤ) (at : Uv) → node < source_of (length sinks)
-      → IsReach (sinks_below sinks merges node) (reach +ℤ reach)
+      → IsDoubleReach (sinks_below sinks merges node) (reach +ℤ reach)
       → InRegion (sinks_below sinks merges node) 1 reach at → IsUvBelow (5 * 10 ^ 31) at
   place_of_node node reach at below is region =
       let some = some_sink sinks merges topology.each node (omega (arith, topology.all)) in

@@ -1,5 +1,5 @@
 -- Clusters of sinks that trees are made over: how large their numbers are, and how two are joined.
-use Rattle.tilted_rect.proofs.Vocabulary.{◌≡◌, ◌↔◌, ◌<ℤ◌, Option, Some, None, ◌*◌, ◌^◌, List, [], ◌∷◌, ◌++◌, ℤ, pos, ◌+ℤ◌, ◌-ℤ◌, ◌≤ℤ◌, refl, sym, subst, arith, Contains, All, ints, clamps, to_z-of_z, All-contains, All-append, All-nil, All-cons, int_max, Sink, IsBelow, IsMultipleOf, IsReach, IsUnion, bound, between, HasSides, CanGrowBy, gap_of, Rect}
+use Rattle.tilted_rect.proofs.Vocabulary.{◌≡◌, ◌↔◌, ◌<ℤ◌, Option, Some, None, ◌*◌, ◌^◌, List, [], ◌∷◌, ◌++◌, ℤ, pos, ◌+ℤ◌, ◌-ℤ◌, ◌≤ℤ◌, refl, sym, subst, arith, Contains, All, ints, clamps, to_z-of_z, All-contains, All-append, All-nil, All-cons, int_max, Sink, IsBelow, IsMultipleOf, IsDoubleReach, IsUnion, bound, between, HasSides, CanGrowBy, gap_of, Rect}
 use Rattle.std.specs.Option.{IsSome, IsNone, IfSome}
 use Rattle.std.proofs.Math.Logic.{∥∥₁_elim, ∥∥₁_map, ∥∥₁_prop}
 use Rattle.std.proofs.Props.{props}
@@ -66,7 +66,7 @@ pub record IsTwice (twice : ℤ) : Type 0 where
   pub multiple : IsMultipleOf 8 twice
 
 pub tree_twice : (sinks : List Sink) (extremes : Extremes) (twice : ℤ) → All IsTreeSink sinks
-    → IsExtremes sinks extremes → IsReach sinks twice → IsTwice twice
+    → IsExtremes sinks extremes → IsDoubleReach sinks twice → IsTwice twice
 tree_twice sinks extremes twice each held reach =
     let small = small_extremes sinks extremes each held in
     let is : twice ≡ spread extremes = one_greatest_span sinks sinks twice (spread extremes) reach
@@ -134,17 +134,17 @@ pub cost_reach : (first second both : List Sink) (reach other_reach cost : ℤ) 
     → IsUnion first second both → IsReachAndRegion first reach rect
     → IsReachAndRegion second other_reach other
     → cost ≡ int_max (int_max (gap_of rect other) (reach -ℤ other_reach)) (other_reach -ℤ reach)
-    → IsReach both (reach +ℤ other_reach +ℤ cost)
+    → IsDoubleReach both (reach +ℤ other_reach +ℤ cost)
 cost_reach first second both reach other_reach cost rect other union held other_held is =
-    subst (λ z. IsReach both (reach +ℤ other_reach +ℤ z)) (sym is)
-    (subst (IsReach both) (cost_is reach other_reach (gap_of rect other))
+    subst (λ z. IsDoubleReach both (reach +ℤ other_reach +ℤ z)) (sym is)
+    (subst (IsDoubleReach both) (cost_is reach other_reach (gap_of rect other))
     (union_reach first second both rect other reach other_reach union held.reach
     other_held.reach held.region other_held.region))
 
 -- the reach of some sinks is no more than that of more sinks
 reach_grows : (first both : List Sink) (twice more : ℤ)
-    → ((sink : Sink) → Contains first sink → Contains both sink) → IsReach first twice
-    → IsReach both more → twice ≤ℤ more
+    → ((sink : Sink) → Contains first sink → Contains both sink) → IsDoubleReach first twice
+    → IsDoubleReach both more → twice ≤ℤ more
 reach_grows first both twice more among reach wide = subst (λ z. z ≤ℤ more) reach.shown
     (wide.most reach.one reach.other (among reach.one reach.one_among)
     (among reach.other reach.other_among))
@@ -152,7 +152,7 @@ reach_grows first both twice more among reach wide = subst (λ z. z ≤ℤ more)
 -- twice the reach of the sinks of two clusters, whichever sinks those are
 abbrev pub IsJoinedTwice : (self other : Cluster) → ℤ → Type 0
 IsJoinedTwice self other twice = (first second both : List Sink) → IsUnion first second both
-    → IsCluster first self → IsCluster second other → IsReach both twice
+    → IsCluster first self → IsCluster second other → IsDoubleReach both twice
 
 -- it is small, and no less than twice the reach of either
 pub record IsJoining (reach other_reach twice : ℤ) : Type 0 where
@@ -292,7 +292,7 @@ pub joined_is : (self other : Cluster) (reach wide : ℤ) (grown other_grown com
     → IsReachAndRegion both wide common
 joined_is self other reach wide grown other_grown common found is joined grown_is other_grown_is
     some meeting first second both union one two = record {
-      reach = subst (λ z. IsReach both (z +ℤ z)) (sym is) (joined first second both union one two);
+      reach = subst (λ z. IsDoubleReach both (z +ℤ z)) (sym is) (joined first second both union one two);
       region = grown_regions_meet_in_region first second both self.region other.region grown
           other_grown common self.reach other.reach wide union one.region two.region grown_is
           other_grown_is (subst (λ o. IfSome o (IsMeeting grown other_grown)) some meeting);

@@ -1,5 +1,5 @@
 -- Two sets of sinks merged, by the rectangles of their regions alone.
-use Rattle.tilted_rect.proofs.Vocabulary.{◌≡◌, List, [], ◌∷◌, ℤ, pos, ◌+ℤ◌, ◌-ℤ◌, ◌≤ℤ◌, ◌<ℤ◌, ◌⊎◌, inl, inr, sym, subst, arith, Contains, ints, clamps, by_lt_z, int_max, int_min, Sink, apart, span, IsGreatestSpan, IsReach, IsUnion, u_above, u_below, v_above, v_below, Extremes, IsExtremes, spread, joined, joined_twice, HasExtremeSides, IsRegion, IsGrown, IsMeeting, between, HasSides, gap_of, Rect}
+use Rattle.tilted_rect.proofs.Vocabulary.{◌≡◌, List, [], ◌∷◌, ℤ, pos, ◌+ℤ◌, ◌-ℤ◌, ◌≤ℤ◌, ◌<ℤ◌, ◌⊎◌, inl, inr, sym, subst, arith, Contains, ints, clamps, by_lt_z, int_max, int_min, Sink, apart, span, IsGreatestSpan, IsDoubleReach, IsUnion, u_above, u_below, v_above, v_below, Extremes, IsExtremes, spread, joined, joined_twice, HasExtremeSides, IsRegion, IsGrown, IsMeeting, between, HasSides, gap_of, Rect}
 use Rattle.tilted_rect.proofs.ExtremeLemmas.{extremes_one, extremes_union}
 use Rattle.tilted_rect.proofs.RectLemmas.{max_either}
 use Rattle.tilted_rect.proofs.RegionLemmas.{region_extremes, region_from_sides, sides_from_region}
@@ -7,8 +7,8 @@ use Rattle.tilted_rect.proofs.SpanLemmas.{cross, HasSpan, span_le_cross, cross_i
 
 -- ---- a sink alone
 
-pub sink_reach : (sink : Sink) → IsReach (sink ∷ []) (sink.offset +ℤ sink.offset)
-sink_reach sink = subst (IsReach (sink ∷ [])) (spread_one sink.at.u sink.at.v sink.offset)
+pub sink_reach : (sink : Sink) → IsDoubleReach (sink ∷ []) (sink.offset +ℤ sink.offset)
+sink_reach sink = subst (IsDoubleReach (sink ∷ [])) (spread_one sink.at.u sink.at.v sink.offset)
     (spread_is_reach (sink ∷ [])
     (record {
       greatest_u = u_above sink;
@@ -115,7 +115,7 @@ max_above a b c is = (omega (arith, ints, clamps), omega (arith, ints, clamps))
 pub grown_regions_meet : (first second both : List Sink) (rect other grown other_grown : Rect)
     (radius other_radius wide twice : ℤ) → IsUnion first second both → IsRegion rect first radius
     → IsRegion other second other_radius → IsGrown rect (wide -ℤ radius) grown
-    → IsGrown other (wide -ℤ other_radius) other_grown → IsReach both twice
+    → IsGrown other (wide -ℤ other_radius) other_grown → IsDoubleReach both twice
     → twice ≤ℤ (wide +ℤ wide) → gap_of grown other_grown ≡ pos 0
 grown_regions_meet first second both rect other grown other_grown radius other_radius wide twice
     union region other_region grown_is other_grown_is reach within =
@@ -246,8 +246,8 @@ span_among first second both others least lower into other_into greatest below =
 }
 
 module _ (first second both : List Sink) (rect other : Rect) (radius other_radius : ℤ)
-    (union : IsUnion first second both) (reach : IsReach first (radius +ℤ radius))
-    (other_reach : IsReach second (other_radius +ℤ other_radius))
+    (union : IsUnion first second both) (reach : IsDoubleReach first (radius +ℤ radius))
+    (other_reach : IsDoubleReach second (other_radius +ℤ other_radius))
     (region : IsRegion rect first radius) (other_region : IsRegion other second other_radius) where
   -- twice the reach of the union
   abbrev union_twice : ℤ
@@ -306,5 +306,5 @@ module _ (first second both : List Sink) (rect other : Rect) (radius other_radiu
       mean gap none = omega (arith, ints, clamps)
 
   -- the reach of a union by the reaches and the gap of its parts
-  pub union_reach : IsReach both union_twice
+  pub union_reach : IsDoubleReach both union_twice
   union_reach = greatest_from_span both both union_twice union_most union_shown

@@ -1,6 +1,6 @@
 -- No halving is lost: what is a multiple of 8 in places and offsets is a multiple of 4 in reaches
 -- and corners.
-use Rattle.tilted_rect.proofs.Vocabulary.{◌≡◌, List, ℤ, pos, ◌+ℤ◌, ◌-ℤ◌, int_div, subst, arith, Contains, ints, Sink, IsMultipleOf, apart, span, IsGreatestSpan, IsReach, Extremes, IsExtremes, AreMultiplesOf, AreSidesMultiples}
+use Rattle.tilted_rect.proofs.Vocabulary.{◌≡◌, List, ℤ, pos, ◌+ℤ◌, ◌-ℤ◌, int_div, subst, arith, Contains, ints, Sink, IsMultipleOf, apart, span, IsGreatestSpan, IsDoubleReach, Extremes, IsExtremes, AreMultiplesOf, AreSidesMultiples}
 use Rattle.tilted_rect.proofs.RectLemmas.{max_either}
 use Rattle.cts_model.proofs.PointLemmas.{halves}
 
@@ -58,7 +58,7 @@ greatest_span_is_multiple first second greatest multiples others held =
 
 -- so the reach is a whole number, and a multiple of 4
 pub reach_is_multiple : (sinks : List Sink) (twice : ℤ) → AreMultiplesOf 8 sinks
-    → IsReach sinks twice → (radius : ℤ) × (radius +ℤ radius ≡ twice) × IsMultipleOf 4 radius
+    → IsDoubleReach sinks twice → (radius : ℤ) × (radius +ℤ radius ≡ twice) × IsMultipleOf 4 radius
 reach_is_multiple sinks twice multiples reach =
     let multiple = greatest_span_is_multiple sinks sinks twice multiples multiples reach in
     let half = int_div twice (pos 2) in

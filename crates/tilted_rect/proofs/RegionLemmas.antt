@@ -1,5 +1,5 @@
 -- The region of a set of sinks: which rectangle it is, and where it has a point.
-use Rattle.tilted_rect.proofs.Vocabulary.{◌≡◌, ℕ, List, [], ◌∷◌, ℤ, pos, ◌+ℤ◌, ◌-ℤ◌, ◌*ℤ◌, ◌≤ℤ◌, ◌↔◌, refl, sym, ap, subst, ◌∙◌, arith, Contains, ints, clamps, Contains-append_right, Sink, Uv, apart, scaled, rotated_distance, span, IsReach, InRegion, MeetTwoByTwo, Extremes, IsExtremes, spread, IsBetween, HasExtremeSides, IsRegion, clamped, Holds, IsNear, Rect, scale_le, scale-sub, scale-add, scale-max, scale-apart}
+use Rattle.tilted_rect.proofs.Vocabulary.{◌≡◌, ℕ, List, [], ◌∷◌, ℤ, pos, ◌+ℤ◌, ◌-ℤ◌, ◌*ℤ◌, ◌≤ℤ◌, ◌↔◌, refl, sym, ap, subst, ◌∙◌, arith, Contains, ints, clamps, Contains-append_right, Sink, Uv, apart, scaled, rotated_distance, span, IsDoubleReach, InRegion, MeetTwoByTwo, Extremes, IsExtremes, spread, IsBetween, HasExtremeSides, IsRegion, clamped, Holds, IsNear, Rect, scale_le, scale-sub, scale-add, scale-max, scale-apart}
 use Rattle.tilted_rect.proofs.ExtremeLemmas.{contains_itself, contains_none, has_extremes}
 use Rattle.tilted_rect.proofs.IntervalLemmas.{clamped_ge, clamped_le, clamped_near, max_le, le_max_left, le_max_right}
 use Rattle.tilted_rect.proofs.RectLemmas.{over_one}
@@ -335,7 +335,7 @@ point_between extremes scale radius within =
       },
     )
 
-point_in_region : (sinks : List Sink) (twice : ℤ) (scale : ℕ) (radius : ℤ) → IsReach sinks twice
+point_in_region : (sinks : List Sink) (twice : ℤ) (scale : ℕ) (radius : ℤ) → IsDoubleReach sinks twice
     → (pos scale *ℤ twice) ≤ℤ (radius +ℤ radius) → (point : Uv) × InRegion sinks scale radius point
 point_in_region [] twice scale radius reach within =
     absurd (contains_none reach.one reach.one_among)
@@ -349,7 +349,7 @@ point_in_region (sink ∷ more) twice scale radius reach within =
 
 -- a region has a point exactly where the reach is no more than its radius
 pub region_has_point : (sinks : List Sink) (twice : ℤ) (scale : ℕ) (radius : ℤ)
-    → IsReach sinks twice → ((point : Uv) × InRegion sinks scale radius point)
+    → IsDoubleReach sinks twice → ((point : Uv) × InRegion sinks scale radius point)
     ↔ ((pos scale *ℤ twice) ≤ℤ (radius +ℤ radius))
 region_has_point sinks twice scale radius reach = (
   λ found. subst (λ z. (pos scale *ℤ z) ≤ℤ (radius +ℤ radius)) reach.shown
@@ -366,7 +366,7 @@ squares_meet [] scale radius meet =
 squares_meet (sink ∷ more) scale radius meet =
     let sinks = sink ∷ more in
     let found = has_extremes sink more in
-    let reach : IsReach sinks (spread found.0) = spread_is_reach sinks found.0 found.1 in
+    let reach : IsDoubleReach sinks (spread found.0) = spread_is_reach sinks found.0 found.1 in
     let pair = meet reach.one reach.other reach.one_among reach.other_among in
     let both = reach.one ∷ reach.other ∷ [] in
     point_in_region sinks (spread found.0) scale radius reach

@@ -1,5 +1,5 @@
 -- The greatest span of two sets of sinks, by their extremes.
-use Rattle.tilted_rect.proofs.Vocabulary.{◌≡◌, List, ℤ, ◌+ℤ◌, ◌-ℤ◌, ◌≤ℤ◌, ◌↔◌, subst, sym, arith, Contains, ints, clamps, int_max, Sink, apart, span, IsGreatestSpan, IsReach, u_above, u_below, v_above, v_below, Extremes, IsExtremes, spread}
+use Rattle.tilted_rect.proofs.Vocabulary.{◌≡◌, List, ℤ, ◌+ℤ◌, ◌-ℤ◌, ◌≤ℤ◌, ◌↔◌, subst, sym, arith, Contains, ints, clamps, int_max, Sink, apart, span, IsGreatestSpan, IsDoubleReach, u_above, u_below, v_above, v_below, Extremes, IsExtremes, spread}
 use Rattle.tilted_rect.proofs.RectLemmas.{max_either}
 
 -- ---- on plain numbers
@@ -176,7 +176,7 @@ one_greatest_span first second greatest other held other_held =
 
 -- the spread of the extremes is twice the reach
 pub spread_is_reach : (sinks : List Sink) (extremes : Extremes) → IsExtremes sinks extremes
-    → IsReach sinks (spread extremes)
+    → IsDoubleReach sinks (spread extremes)
 spread_is_reach sinks extremes held =
     subst (IsGreatestSpan sinks sinks) (cross-same extremes)
     (cross_is_greatest sinks sinks extremes extremes held held)
@@ -186,7 +186,7 @@ spread_is_reach sinks extremes held =
 
 -- twice the reach is the greater of what the extremes differ by
 pub reach_is_spread : (sinks : List Sink) (extremes : Extremes) (twice : ℤ)
-    → IsExtremes sinks extremes → IsReach sinks twice ↔ (twice ≡ spread extremes)
+    → IsExtremes sinks extremes → IsDoubleReach sinks twice ↔ (twice ≡ spread extremes)
 reach_is_spread sinks extremes twice held = (
   λ reach. one_greatest_span sinks sinks twice (spread extremes) reach
       (spread_is_reach sinks extremes held),
@@ -195,7 +195,7 @@ reach_is_spread sinks extremes twice held = (
 
 -- a sink of the greatest sum in u and one of the least difference show the reach that they give
 pub sinks_of_u_show : (sinks : List Sink) (extremes : Extremes) (one other : Sink)
-    → IsReach sinks (extremes.greatest_u -ℤ extremes.least_u) → Contains sinks one
+    → IsDoubleReach sinks (extremes.greatest_u -ℤ extremes.least_u) → Contains sinks one
     → Contains sinks other → u_above one ≡ extremes.greatest_u → u_below other ≡ extremes.least_u
     → span one other ≡ extremes.greatest_u -ℤ extremes.least_u
 sinks_of_u_show sinks extremes one other reach among other_among above below =
@@ -206,7 +206,7 @@ sinks_of_u_show sinks extremes one other reach among other_among above below =
 
 -- and the same in v
 pub sinks_of_v_show : (sinks : List Sink) (extremes : Extremes) (one other : Sink)
-    → IsReach sinks (extremes.greatest_v -ℤ extremes.least_v) → Contains sinks one
+    → IsDoubleReach sinks (extremes.greatest_v -ℤ extremes.least_v) → Contains sinks one
     → Contains sinks other → v_above one ≡ extremes.greatest_v → v_below other ≡ extremes.least_v
     → span one other ≡ extremes.greatest_v -ℤ extremes.least_v
 sinks_of_v_show sinks extremes one other reach among other_among above below =

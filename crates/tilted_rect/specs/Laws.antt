@@ -1,7 +1,7 @@
 -- What merging by rectangles alone rests on, for every set of sinks: Boese and Kahng 1992; Chao and
 -- others 1992. Each law is the clause of a function of the module laws.
 use Rattle.std.specs.Prelude.{◌≡◌, ◌↔◌, ℕ, List, [], ◌∷◌, ◌++◌, Contains, ℤ, pos, ◌+ℤ◌, ◌-ℤ◌, ◌*ℤ◌, ◌≤ℤ◌, ◌<ℤ◌}
-use Rattle.cts_model.specs.Vocabulary.{Sink, Uv, IsMultipleOf, span, IsGreatestSpan, IsReach, InRegion, MeetTwoByTwo, IsUnion}
+use Rattle.cts_model.specs.Vocabulary.{Sink, Uv, IsMultipleOf, span, IsGreatestSpan, IsDoubleReach, InRegion, MeetTwoByTwo, IsUnion}
 use Rattle.tilted_rect.specs.Rects.{IsNear, HasSides, gap_of}
 use Rattle.tilted_rect.specs.Extremes.{u_above, u_below, v_above, v_below, Extremes, IsExtremes, spread, joined, joined_twice, IsBetween, HasExtremeSides, IsRegion, IsGrown, IsMeeting, AreMultiplesOf, AreSidesMultiples}
 use Rattle.tilted_rect.specs.declared.rect.Rect.{Rect}
@@ -14,12 +14,12 @@ EachSetHasExtremes = (sink : Sink) (more : List Sink)
 -- twice the reach is the greater of what the extremes differ by in u and in v
 abbrev pub ReachIsSpread : Type 0
 ReachIsSpread = (sinks : List Sink) (extremes : Extremes) (twice : ℤ) → IsExtremes sinks extremes
-    → IsReach sinks twice ↔ (twice ≡ spread extremes)
+    → IsDoubleReach sinks twice ↔ (twice ≡ spread extremes)
 
 -- where u decides the reach, a sink of the greatest sum and one of the least difference show it
 abbrev pub SinksOfUShow : Type 0
 SinksOfUShow = (sinks : List Sink) (extremes : Extremes) (one other : Sink)
-    → IsReach sinks (extremes.greatest_u -ℤ extremes.least_u)
+    → IsDoubleReach sinks (extremes.greatest_u -ℤ extremes.least_u)
     → Contains sinks one → Contains sinks other
     → u_above one ≡ extremes.greatest_u → u_below other ≡ extremes.least_u
     → span one other ≡ extremes.greatest_u -ℤ extremes.least_u
@@ -27,7 +27,7 @@ SinksOfUShow = (sinks : List Sink) (extremes : Extremes) (one other : Sink)
 -- and the same where v does
 abbrev pub SinksOfVShow : Type 0
 SinksOfVShow = (sinks : List Sink) (extremes : Extremes) (one other : Sink)
-    → IsReach sinks (extremes.greatest_v -ℤ extremes.least_v)
+    → IsDoubleReach sinks (extremes.greatest_v -ℤ extremes.least_v)
     → Contains sinks one → Contains sinks other
     → v_above one ≡ extremes.greatest_v → v_below other ≡ extremes.least_v
     → span one other ≡ extremes.greatest_v -ℤ extremes.least_v
@@ -49,7 +49,7 @@ RegionHasExtremeSides = (sinks : List Sink) (extremes : Extremes) (rect : Rect) 
 
 -- a region has a point exactly where the reach is no more than its radius
 abbrev pub RegionHasPoint : Type 0
-RegionHasPoint = (sinks : List Sink) (twice : ℤ) (scale : ℕ) (radius : ℤ) → IsReach sinks twice
+RegionHasPoint = (sinks : List Sink) (twice : ℤ) (scale : ℕ) (radius : ℤ) → IsDoubleReach sinks twice
     → ((point : Uv) × InRegion sinks scale radius point)
     ↔ ((pos scale *ℤ twice) ≤ℤ (radius +ℤ radius))
 
@@ -66,7 +66,7 @@ SquaresMeet = (sinks : List Sink) (scale : ℕ) (radius : ℤ)
 
 -- a sink alone has its offset for its reach, and its place for its region
 abbrev pub SinkReach : Type 0
-SinkReach = (sink : Sink) → IsReach (sink ∷ []) (sink.offset +ℤ sink.offset)
+SinkReach = (sink : Sink) → IsDoubleReach (sink ∷ []) (sink.offset +ℤ sink.offset)
 
 abbrev pub SinkRegion : Type 0
 SinkRegion = (sink : Sink) (rect : Rect) → HasSides rect sink.at.u sink.at.u sink.at.v sink.at.v
@@ -97,7 +97,7 @@ GrownRegionsMeet = (first second both : List Sink) (rect other grown other_grown
     → (radius other_radius wide twice : ℤ) → IsUnion first second both
     → IsRegion rect first radius → IsRegion other second other_radius
     → IsGrown rect (wide -ℤ radius) grown → IsGrown other (wide -ℤ other_radius) other_grown
-    → IsReach both twice → twice ≤ℤ (wide +ℤ wide) → gap_of grown other_grown ≡ pos 0
+    → IsDoubleReach both twice → twice ≤ℤ (wide +ℤ wide) → gap_of grown other_grown ≡ pos 0
 
 -- where two regions are apart, the radii and the gap are the greatest span between the sets
 abbrev pub GapIsGreatestSpan : Type 0
@@ -118,9 +118,9 @@ NoGapNoGreaterSpan = (first second : List Sink) (rect other : Rect) (radius othe
 abbrev pub UnionReach : Type 0
 UnionReach = (first second both : List Sink) (rect other : Rect) (radius other_radius : ℤ)
     → IsUnion first second both
-    → IsReach first (radius +ℤ radius) → IsReach second (other_radius +ℤ other_radius)
+    → IsDoubleReach first (radius +ℤ radius) → IsDoubleReach second (other_radius +ℤ other_radius)
     → IsRegion rect first radius → IsRegion other second other_radius
-    → IsReach both (joined_twice radius other_radius (gap_of rect other))
+    → IsDoubleReach both (joined_twice radius other_radius (gap_of rect other))
 
 -- where places and offsets are multiples of 8, spans are, and so is twice a reach
 abbrev pub GreatestSpanIsMultiple : Type 0
@@ -130,7 +130,7 @@ GreatestSpanIsMultiple = (first second : List Sink) (greatest : ℤ)
 
 -- so the reach is a whole number, and a multiple of 4
 abbrev pub ReachIsMultiple : Type 0
-ReachIsMultiple = (sinks : List Sink) (twice : ℤ) → AreMultiplesOf 8 sinks → IsReach sinks twice
+ReachIsMultiple = (sinks : List Sink) (twice : ℤ) → AreMultiplesOf 8 sinks → IsDoubleReach sinks twice
     → (radius : ℤ) × (radius +ℤ radius ≡ twice) × IsMultipleOf 4 radius
 
 -- and the corners of the region at such a radius are multiples of 4

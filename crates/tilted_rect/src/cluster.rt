@@ -19,7 +19,7 @@ pub struct Cluster {
 
 impl Cluster {
     ghost use Rattle.std.specs.Prelude.{◌≡◌, List, [], ◌∷◌, ◌+ℤ◌, ◌-ℤ◌, ◌≤ℤ◌};
-    ghost use Rattle.cts_model.specs.Vocabulary.{Sink, IsReach, IsUnion, IsTreeSink};
+    ghost use Rattle.cts_model.specs.Vocabulary.{Sink, IsDoubleReach, IsUnion, IsTreeSink};
     ghost use Rattle.tilted_rect.specs.Extremes.{IsGrown};
     ghost use Rattle.tilted_rect.specs.ClusterSets.{IsCluster, cost_of};
 
@@ -39,7 +39,7 @@ impl Cluster {
         ensures value { result ≡ cost_of self.now other.now }
         ensures reach { (first second both : List Sink) → IsUnion first second both
             → IsCluster first self.now → IsCluster second other.now
-            → IsReach both (self.now.reach +ℤ other.now.reach +ℤ result) }
+            → IsDoubleReach both (self.now.reach +ℤ other.now.reach +ℤ result) }
         ensures below { IsBelow (10 ^ 34) result }
     {
         let gap = self.region.gap(other.region);
@@ -64,7 +64,7 @@ impl Cluster {
     fn joined_reach(&self, other: &Cluster) -> i128
         ensures both { (first second both : List Sink) → IsUnion first second both
             → IsCluster first self.now → IsCluster second other.now
-            → IsReach both (result +ℤ result) }
+            → IsDoubleReach both (result +ℤ result) }
         ensures below { IsBelow (10 ^ 32) result }
         ensures multiple { IsMultipleOf 4 result }
         ensures least { self.now.reach ≤ℤ result }

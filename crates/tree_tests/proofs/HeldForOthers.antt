@@ -1,5 +1,5 @@
 -- What a room holds of a merge for some sinks, it holds for others that are alike below it.
-use Rattle.tree_tests.proofs.Vocabulary.{◌≡◌, ◌≢◌, ℕ, zero, suc, ◌+◌, ◌<◌, List, [], ◌∷◌, ◌++◌, Contains, length, Some, Option, IsSomeAnd, slice_get, slice_set, filter_map, ℤ, ◌+ℤ◌, refl, sym, ap, subst, ◌∙◌, arith, length-set, All-cons, All-contains, All-nil, All-set, Contains-append_right, Sink, Merge, Show, IsReach, ShowsMerge, AreTreeSinks, IsTreeSink, IsTopology, numbers_below, sinks_below, numbers_below-merge, numbers_below-sink, some_and, IsRegion, HoldsMerge, IsRenewed, IsSinkSet, WorkState, merges_renewed, merges_set, set_kept}
+use Rattle.tree_tests.proofs.Vocabulary.{◌≡◌, ◌≢◌, ℕ, zero, suc, ◌+◌, ◌<◌, List, [], ◌∷◌, ◌++◌, Contains, length, Some, Option, IsSomeAnd, slice_get, slice_set, filter_map, ℤ, ◌+ℤ◌, refl, sym, ap, subst, ◌∙◌, arith, length-set, All-cons, All-contains, All-nil, All-set, Contains-append_right, Sink, Merge, Show, IsDoubleReach, ShowsMerge, AreTreeSinks, IsTreeSink, IsTopology, numbers_below, sinks_below, numbers_below-merge, numbers_below-sink, some_and, IsRegion, HoldsMerge, IsRenewed, IsSinkSet, WorkState, merges_renewed, merges_set, set_kept}
 use Rattle.std.specs.List.{All, cons_option}
 use Rattle.cts_model.specs.declared.tree.Show.TheVariants as shows
 
@@ -52,7 +52,7 @@ held_for_others sinks others merges work place count agree held =
       region_held = subst (λ n. slice_get work.regions (n + place) ≡ Some held.region) back
           held.region_held;
       show_held = held.show_held;
-      is_reach = subst (λ list. IsReach list (held.reach +ℤ held.reach)) same held.is_reach;
+      is_reach = subst (λ list. IsDoubleReach list (held.reach +ℤ held.reach)) same held.is_reach;
       is_region = subst (λ list. IsRegion held.region list held.reach) same held.is_region;
       shows = subst (λ list. ShowsMerge others list held.reach held.show) below
           (shows_for_others sinks others numbers agree held.reach held.show held.shows);

@@ -1,5 +1,5 @@
 -- Three sinks of which the third is set closer to the others: what is held of their merges stays.
-use Rattle.tree_tests.proofs.Vocabulary.{◌≡◌, ℕ, zero, suc, ◌+◌, ◌^◌, ◌<◌, List, [], ◌∷◌, ◌++◌, Contains, length, Some, IsSomeAnd, slice_get, filter_map, ℤ, pos, neg_ℤ, ◌+ℤ◌, ◌≤ℤ◌, ◌<ℤ◌, refl, sym, ap, subst, ◌∙◌, arith, All-cons, All-contains, All-nil, Sink, Merge, Show, IsReach, span, ShowsMerge, AreTreeSinks, IsTreeSink, IsTopology, numbers_below, numbers_below-sink, Extremes, IsExtremes, IsRegion, u_above, u_below, v_above, v_below, HoldsMerge, HoldsSink, IsMerged, IsSinkSet, IsUnsettled, WorkState, IsFit, IsBegun, begun_next, merges_set}
+use Rattle.tree_tests.proofs.Vocabulary.{◌≡◌, ℕ, zero, suc, ◌+◌, ◌^◌, ◌<◌, List, [], ◌∷◌, ◌++◌, Contains, length, Some, IsSomeAnd, slice_get, filter_map, ℤ, pos, neg_ℤ, ◌+ℤ◌, ◌≤ℤ◌, ◌<ℤ◌, refl, sym, ap, subst, ◌∙◌, arith, All-cons, All-contains, All-nil, Sink, Merge, Show, IsDoubleReach, span, ShowsMerge, AreTreeSinks, IsTreeSink, IsTopology, numbers_below, numbers_below-sink, Extremes, IsExtremes, IsRegion, u_above, u_below, v_above, v_below, HoldsMerge, HoldsSink, IsMerged, IsSinkSet, IsUnsettled, WorkState, IsFit, IsBegun, begun_next, merges_set}
 use Rattle.std.proofs.lemmas.Int.{ints, clamps}
 use Rattle.std.proofs.lemmas.Option.{slice_get_within}
 use Rattle.cts_model.specs.declared.tree.Show.TheVariants as shows
@@ -191,7 +191,7 @@ held_of_three merges work topology lower upper held =
     (numbers_below-sink 3 merges 0 (omega arith))
     ∙ ap (λ list. 2 ∷ 0 ∷ list) (numbers_below-sink 3 merges 1 (omega arith)) in
     let reach = held.reach in
-    let is_reach = subst (λ list. IsReach (filter_map (slice_get (with far)) list)
+    let is_reach = subst (λ list. IsDoubleReach (filter_map (slice_get (with far)) list)
     (reach +ℤ reach)) numbers held.is_reach in
     let is_region = subst (λ list. IsRegion held.region (filter_map (slice_get (with far)) list)
     reach) numbers held.is_region in
@@ -205,7 +205,7 @@ held_of_three merges work topology lower upper held =
       reach_held = held.reach_held;
       region_held = held.region_held;
       show_held = held.show_held;
-      is_reach = subst (λ list. IsReach (filter_map (slice_get (with near)) list)
+      is_reach = subst (λ list. IsDoubleReach (filter_map (slice_get (with near)) list)
           (reach +ℤ reach)) (sym numbers)
           ((reach_is_spread (near ∷ one ∷ two ∷ []) all (reach +ℤ reach) with_near).1 twice);
       is_region = subst (λ list. IsRegion held.region

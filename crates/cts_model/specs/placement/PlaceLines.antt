@@ -18,10 +18,6 @@ pub data Entry : Type 0 where
   Header : Entry
   Stands : (node : Node) → Entry
 
--- any byte but the colon before an orientation
-abbrev pub is_not_colon : ℕ → Bool
-is_not_colon byte = not (byte == 58)
-
 -- the word has that byte before
 abbrev pub begins_with : ℕ → List ℕ → Bool
 begins_with byte [] = false
@@ -56,9 +52,9 @@ is_tail (word ∷ rest) =
     if begins_with 58 word then is_oriented (part_and (drop 1 word) rest)
     else is_remark (word ∷ rest)
 
--- y is as much of its word as stands before a colon
+-- y is as much of its word as stands before the colon of an orientation
 abbrev pub y_len : List ℕ → ℕ
-y_len word = prefix_len is_not_colon word
+y_len word = prefix_len (λ byte. not (byte == 58)) word
 
 -- the node of a line, by its name, its x and the words after x
 abbrev pub node_of : (name x : List ℕ) → List (List ℕ) → Option Node

@@ -105,13 +105,10 @@ abbrev pub names_in : Members → List (List ℕ)
 names_in no_members = []
 names_in (member name value members) = name ∷ names_in members
 
--- a name is none of these
-abbrev pub is_unknown : List (List ℕ) → List ℕ → Bool
-is_unknown known name = not (list_any (bytes_eq name) known)
-
 -- those of the names in a table that are none of these, dotted
 abbrev pub unknown_of : List (List ℕ) → List (List ℕ) → List (List ℕ) → List (List ℕ)
-unknown_of way known names = map (dotted way) (filter (is_unknown known) names)
+unknown_of way known names =
+    map (dotted way) (filter (λ name. not (list_any (bytes_eq name) known)) names)
 
 -- the same of the table that some names lead to
 abbrev pub unknown_at : List (List ℕ) → List (List ℕ) → Members → List (List ℕ)

@@ -76,14 +76,10 @@ abbrev pub is_small_fraction : List ℕ → Bool
 is_small_fraction text =
     is_between 1 1000000 (numerator_of text) && is_between 1 1000000 (denominator_of text)
 
--- a name has 1 to 255 bytes
-abbrev pub is_node_name : List ℕ → Bool
-is_node_name name = is_between 1 255 (length name)
-
--- a value of that form is in the range of the key
+-- a value of that form is in the range of the key: a name has 1 to 255 bytes
 abbrev pub is_in_range : Form → Data → Bool
 is_in_range Fraction value = option_map_or is_small_fraction (as_str value) false
-is_in_range Node value = option_map_or is_node_name (as_str value) false
+is_in_range Node value = option_map_or (λ name. is_between 1 255 (length name)) (as_str value) false
 is_in_range (UpTo most) value = option_map_or (is_up_to most) (as_integer value) false
 
 -- what the document says of a gate kind

@@ -3,7 +3,7 @@ use Rattle.std.specs.Prelude.{ℕ, ◌-◌, ℤ, pos, ◌+ℤ◌, ◌*ℤ◌, fa
 use Rattle.cts_model.specs.Types.{Kind, Signal, Circuit, GateDelay, Tech}
 use Rattle.cts_model.specs.netlist.Kinds.{place_of}
 
--- what a table says of a kind that has no gates
+-- what a table says of a kind that it doesn't give; no gate of a problem has such a kind
 abbrev pub no_delay : GateDelay
 no_delay = record {
   given = false;
@@ -45,7 +45,9 @@ greatest_through circuit tech [] = pos 0
 greatest_through circuit tech (gate ∷ gates) =
     greatest_gate_delay tech (slice_get circuit.signals gate) +ℤ greatest_through circuit tech gates
 
--- a path's least delay: that of its register, and those of its gates
+-- a path's least delay: that of its register, and those of its gates. The host counts as a
+-- register: a path from a primary input has a register's delay too, and a primary output has a
+-- register's setup and hold time.
 abbrev pub least_delay : Circuit → Tech → List ℕ → ℤ
 least_delay circuit tech [] = tech.least
 least_delay circuit tech (register ∷ gates) = tech.least +ℤ least_through circuit tech gates

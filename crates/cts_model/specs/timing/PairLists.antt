@@ -21,15 +21,11 @@ pub record ListsPairs (circuit : Circuit) (tech : Tech) (pairs : List PairDelay)
   pub delays : All (IsPairDelay circuit tech) pairs
   pub all : (from to : ℕ) (path : List ℕ) → IsPath circuit from to path → IsListed from to pairs
 
--- some path joins the two registers
-abbrev pub AreJoined : Circuit → ℕ × ℕ → Type 0
-AreJoined circuit pair = (path : List ℕ) × IsPath circuit pair.0 pair.1 path
-
--- more pairs than this are joined: here are so many, each once
+-- more pairs than this are joined by a path: here are so many, each once
 pub record JoinsMoreThan (circuit : Circuit) (limit : ℕ) : Type 0 where
   pub pairs : List (ℕ × ℕ)
   pub ordered : AllPairs (λ first second. ComesBefore first.0 first.1 second.0 second.1) pairs
-  pub joined : All (AreJoined circuit) pairs
+  pub joined : All (λ pair. (path : List ℕ) × IsPath circuit pair.0 pair.1 path) pairs
   pub more : limit < length pairs
 
 -- the delays of a pair are from 0 to below 66,000,000,000, as those of gates and a register within

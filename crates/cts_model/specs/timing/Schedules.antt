@@ -27,8 +27,8 @@ pub record IsMarginPeriod (period : Fraction) : Type 0 where
   pub short : period.num <ℤ pos (10 ^ 15)
   pub fine : period.den ≤ℤ pos (10 ^ 4)
 
--- the arrivals meet the period over every path and are from 0 on, and any others that do and are,
--- at a scale that many times as fine, are at least as late
+-- the arrivals meet the period over every path and are from 0 on, and no others that do and are,
+-- whatever finer scale they are in, are earlier at any register
 pub record AreLeastArrivals (circuit : Circuit) (tech : Tech) (period : ℤ) (scale : ℕ)
     (at : List ℤ) : Type 0 where
   pub meets : Meets circuit tech scale period (arrival_of at)

@@ -11,8 +11,8 @@ abbrev pub MeetsSetup : (launch capture greatest setup scale period : ℤ) → T
 MeetsSetup launch capture greatest setup scale period =
     (launch +ℤ (scale *ℤ (greatest +ℤ setup))) ≤ℤ (capture +ℤ period)
 
--- hold: what is launched comes no earlier than the hold time after the edge that captures the one
--- before
+-- hold: what an edge launches reaches the register that captures no earlier than the hold time
+-- after the same edge gets there
 abbrev pub MeetsHold : (launch capture least hold scale : ℤ) → Type 0
 MeetsHold launch capture least hold scale =
     (capture +ℤ (scale *ℤ hold)) ≤ℤ (launch +ℤ (scale *ℤ least))

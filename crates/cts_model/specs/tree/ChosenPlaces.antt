@@ -4,7 +4,7 @@ use Rattle.std.specs.Prelude.{◌≡◌, ◌⊎◌, ℕ, ◌+◌, ℤ, pos, ◌+
 use Rattle.cts_model.specs.Types.{Sink, Uv, Merge}
 use Rattle.cts_model.specs.tree.Embeddings.{Embedding}
 use Rattle.cts_model.specs.placement.Points.{apart, rotated, rotated_distance}
-use Rattle.cts_model.specs.tree.Regions.{InRegion, IsReach}
+use Rattle.cts_model.specs.tree.Regions.{InRegion, IsDoubleReach}
 use Rattle.cts_model.specs.tree.Topologies.{IsParent, sinks_below}
 
 -- a point of the sinks' region, and no point of it, fractions included, is closer to the parent in
@@ -20,7 +20,7 @@ pub record IsChosenPlace (sinks : List Sink) (radius : ℤ) (parent at : Uv) : T
 pub record AreChosen (sinks : List Sink) (merges : List Merge) (reach : ℕ → ℤ)
     (tree : Embedding) : Type 0 where
   pub reaches : (place : ℕ) (merge : Merge) → slice_get merges place ≡ Some merge
-      → IsReach (sinks_below sinks merges (length sinks + place))
+      → IsDoubleReach (sinks_below sinks merges (length sinks + place))
       (reach (length sinks + place) +ℤ reach (length sinks + place))
   pub places : (place parent : ℕ) (merge : Merge) → slice_get merges place ≡ Some merge
       → IsParent (length sinks) merges (length sinks + place) parent

@@ -42,7 +42,8 @@ AreApart piece other = (scale : ℕ) (one two : Point) → 0 < scale
     → IsOn scale one piece → IsOn scale one other → IsOn scale two piece → IsOn scale two other
     → one ≡ two
 
--- the points are those of a wire of that length from the one place to the other
+-- the points are those of a wire of that length from the one place to the other. It has at most 5
+-- points: a detour round a square has as many.
 pub record IsDrawn (from to : Point) (long : ℤ) (points : List Point) : Type 0 where
   pub some : 1 ≤ length points
   pub few : length points ≤ 5

@@ -3,31 +3,28 @@
 -- 1992.
 use Rattle.std.specs.Prelude.{◌≡◌, ◌⊎◌, ℕ, ◌<◌, ℤ, ◌+ℤ◌, ◌-ℤ◌, ◌<ℤ◌, List, ◌++◌, length, take, Some, slice_get, ◌+◌}
 use Rattle.cts_model.specs.Types.{Sink, Merge}
-use Rattle.cts_model.specs.tree.Regions.{IsReach}
+use Rattle.cts_model.specs.timing.EqualArrivals.{ComesBefore}
+use Rattle.cts_model.specs.tree.Regions.{IsDoubleReach}
 use Rattle.cts_model.specs.tree.Topologies.{IsMerge, sinks_below}
 
 -- twice what a merge adds to the wire: its reach counts twice, less the reaches of the two that it
--- joins. IsReach speaks of twice the reach.
+-- joins. Here stands twice each of the three.
 pub record IsDoubleCost (sinks : List Sink) (earlier : List Merge) (merge : Merge)
     (cost : ℤ) : Type 0 where
   pub both : ℤ
   pub first : ℤ
   pub second : ℤ
-  pub first_reach : IsReach (sinks_below sinks earlier merge.first) first
-  pub second_reach : IsReach (sinks_below sinks earlier merge.second) second
-  pub both_reach : IsReach (sinks_below sinks earlier merge.first
+  pub first_reach : IsDoubleReach (sinks_below sinks earlier merge.first) first
+  pub second_reach : IsDoubleReach (sinks_below sinks earlier merge.second) second
+  pub both_reach : IsDoubleReach (sinks_below sinks earlier merge.first
       ++ sinks_below sinks earlier merge.second) both
   pub value : cost ≡ both +ℤ both -ℤ first -ℤ second
 
--- the one merge has the lower first number, or else the lower second
-abbrev pub IsLower : Merge → Merge → Type 0
-IsLower merge other = (merge.first < other.first)
-    ⊎ ((merge.first ≡ other.first) × (merge.second < other.second))
-
--- the one merge costs less, or it costs as much and has the lower numbers
+-- the one merge costs less, or it costs as much and has the lower first number, or else the lower
+-- second
 abbrev pub IsCheaper : (cost : ℤ) → Merge → (other_cost : ℤ) → Merge → Type 0
 IsCheaper cost merge other_cost other = (cost <ℤ other_cost)
-    ⊎ ((cost ≡ other_cost) × IsLower merge other)
+    ⊎ ((cost ≡ other_cost) × ComesBefore merge.first merge.second other.first other.second)
 
 -- after those merges this one is cheaper than any other of two live clusters
 pub record IsCheapest (sinks : List Sink) (earlier : List Merge) (merge : Merge) : Type 0 where

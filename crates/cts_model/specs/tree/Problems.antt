@@ -24,8 +24,9 @@ pub record IsProblem (circuit : Circuit) (tech : Tech) (places : Places) : Type 
   pub near : All (IsPointBelow (1000000000000001)) places.registers
   pub source_near : IsPointBelow (1000000000000001) places.source
 
--- how many grid steps a length unit has: with a of the wire's delay a/b ticks for a length unit,
--- and the period's denominator q, they are 8 q a for each micro
+-- how many grid steps a micro has: 8 q a, with a of the wire's delay a/b ticks for a length unit,
+-- and the period's denominator q. The 8 keeps halves of reaches and of detours whole. A length unit
+-- has a million times as many.
 abbrev pub steps_of_micro : Fraction → Tech → ℤ
 steps_of_micro period tech = pos 8 *ℤ period.den *ℤ tech.wire_num
 

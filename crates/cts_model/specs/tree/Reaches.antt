@@ -6,7 +6,7 @@ use Rattle.std.specs.Option.{option_map_or}
 use Rattle.cts_model.specs.Types.{Sink, Uv, Merge}
 use Rattle.cts_model.specs.tree.ChosenPlaces.{IsSourceReach}
 use Rattle.cts_model.specs.tree.Embeddings.{Embedding, total_length}
-use Rattle.cts_model.specs.tree.Regions.{IsReach}
+use Rattle.cts_model.specs.tree.Regions.{IsDoubleReach}
 use Rattle.cts_model.specs.tree.ShownReaches.{AreReaches}
 use Rattle.cts_model.specs.tree.Topologies.{root_of, source_of, sinks_below}
 
@@ -21,10 +21,10 @@ pub record HasReaches (scale : ℕ) (sinks : List Sink) (merges : List Merge) (t
 pub record AreNoLess (scale : ℕ) (sinks : List Sink) (merges : List Merge) (source : Uv)
     (reach : ℕ → ℤ) : Type 0 where
   pub of_merges : (place : ℕ) (twice : ℤ) → place < length merges
-      → IsReach (sinks_below sinks merges (length sinks + place)) twice
+      → IsDoubleReach (sinks_below sinks merges (length sinks + place)) twice
       → (pos scale *ℤ twice) ≤ℤ (reach (length sinks + place) +ℤ reach (length sinks + place))
   pub of_source : (root least : ℤ)
-      → IsReach (sinks_below sinks merges (root_of (length sinks))) (root +ℤ root)
+      → IsDoubleReach (sinks_below sinks merges (root_of (length sinks))) (root +ℤ root)
       → IsSourceReach sinks source root least
       → (pos scale *ℤ least) ≤ℤ reach (source_of (length sinks))
 

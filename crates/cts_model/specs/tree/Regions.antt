@@ -21,8 +21,8 @@ pub record IsGreatestSpan (first second : List Sink) (greatest : ℤ) : Type 0 w
   pub shown : span one other ≡ greatest
 
 -- twice the reach of a set is its greatest span, that of a sink with itself included
-abbrev pub IsReach : List Sink → ℤ → Type 0
-IsReach sinks twice = IsGreatestSpan sinks sinks twice
+abbrev pub IsDoubleReach : List Sink → ℤ → Type 0
+IsDoubleReach sinks twice = IsGreatestSpan sinks sinks twice
 
 -- the point is no further from any of the sinks than the radius less the sink's offset
 abbrev pub InRegion : List Sink → ℕ → ℤ → Uv → Type 0

@@ -1,11 +1,11 @@
 -- What trees over the sinks of a schedule say of the schedule. Fishburn 1990; Boese and Kahng 1992;
 -- Chao and others 1992. Each law is the clause of a function of the module laws.
-use Rattle.std.specs.Prelude.{◌≡◌, ℕ, ◌≤◌, ℤ, pos, ◌*ℤ◌, ◌≤ℤ◌, List, length, nat_abs}
+use Rattle.std.specs.Prelude.{◌≡◌, ℕ, ℤ, List, length, nat_abs}
 use Rattle.cts_base.specs.declared.fraction.Fraction.{Fraction}
 use Rattle.cts_model.specs.Types.{Circuit, Point, Uv, Schedule, Tech, Merge}
-use Rattle.cts_model.specs.tree.Embeddings.{Embedding, IsEmbedding, IsLeastWire, RealisesOffsets, total_wire}
+use Rattle.cts_model.specs.tree.Embeddings.{Embedding, IsLeastWire, RealisesOffsets}
 use Rattle.cts_model.specs.tree.Problems.{sinks_of}
-use Rattle.cts_model.specs.tree.RealisedSchedules.{RealisesSchedule}
+use Rattle.cts_model.specs.tree.RealisedSchedules.{IsLeastForSchedule, RealisesSchedule}
 use Rattle.cts_model.specs.timing.Schedules.{arrival_of}
 use Rattle.cts_model.specs.timing.Timing.{Meets}
 use Rattle.cts_model.specs.tree.WireDelays.{MeetsByWire}
@@ -25,16 +25,6 @@ SkewsAreOffsets = (scale : ℕ) (period : Fraction) (tech : Tech) (places : List
     → length places ≡ length schedule.at
     → RealisesSchedule scale period tech merges schedule tree
     → RealisesOffsets scale (sinks_of period tech places schedule.at) merges tree
-
--- no embedding of the topology over these places that realises the schedule has less wire, whatever
--- its scale
-abbrev pub IsLeastForSchedule : Fraction → Tech → List Point → Schedule → List Merge
-    → (source : Uv) → (wire : ℤ) → Type 0
-IsLeastForSchedule period tech places schedule merges source wire =
-    (scale : ℕ) (other : Embedding) → 1 ≤ scale
-    → IsEmbedding scale (sinks_of period tech places schedule.at) merges source other
-    → RealisesSchedule scale period tech merges schedule other
-    → (pos scale *ℤ wire) ≤ℤ total_wire (length schedule.at) other
 
 -- the least wire for the offsets is the least for the schedule
 abbrev pub LeastForSchedule : Type 0

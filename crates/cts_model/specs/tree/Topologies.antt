@@ -33,7 +33,8 @@ pub record IsTopology (sinks : ℕ) (merges : List Merge) : Type 0 where
   pub each : (place : ℕ) (merge : Merge) → slice_get merges place ≡ Some merge
       → IsMerge sinks (take place merges) merge
 
--- the node's edge comes from this one: from the merge that joins it, or the root's from the source
+-- the first node has the second as its parent: the merge that joins it, or the source that of the
+-- root
 abbrev pub IsParent : (sinks : ℕ) → List Merge → (node parent : ℕ) → Type 0
 IsParent sinks merges node parent =
     ((place : ℕ) × (parent ≡ sinks + place)
