@@ -6,7 +6,8 @@ use Rattle.std.proofs.lemmas.List.Kept.{AllPairs-cons}
 use Rattle.std.proofs.lemmas.Map.Made.{IsDistinct-from_AllPairs}
 use Rattle.std.proofs.lemmas.Map.Views.{Contains-from_any}
 use Rattle.std.proofs.lemmas.Map.Steps.{length-le_from_distinct_below}
-use Rattle.cts_model.specs.Vocabulary.{Version, register_line_at}
+use Rattle.answer_texts.specs.Types.{Version}
+use Rattle.cts_model.specs.Vocabulary.{register_line_at}
 use Rattle.answer_texts.specs.ScheduleTexts.{register_line_at as register_line_of, register_lines}
 use Rattle.answer_texts.proofs.CountedLines.{number_in, AreCounted, counted_none, counted_section, counted_line, counted_alone}
 

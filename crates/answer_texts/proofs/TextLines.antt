@@ -1,7 +1,8 @@
 -- The lines of each text are lines, as those of reports are.
 use Rattle.answer_texts.proofs.Vocabulary.{ℕ, ℤ, pos, Bool, true, false, List, [], ◌∷◌, ◌++◌, ◌+◌, length, map, slice_index_or, codes, None, arith, range_with_len, Fraction, Circuit, Constraint, PeriodShow, Report, First, Schedule, Slack, Tech, cycle_lines, show_lines, wire_line, IsLine, AreLines, appended, mapped, constraint_is, count_is, shown_are, CornersOutcome, MarginOutcome, all_at_zero, arrival_line, arrival_lines, numbered_line, numbered_line_at, numbered_lines, common_show_lines, corners_lines, summary_lines, margin_lines, found_lines, never_lines, register_line_at, register_lines, zero_lines}
 use Rattle.cts_model.specs.declared.period.PeriodShow.TheVariants as shows
-use Rattle.cts_model.specs.Vocabulary.{ZeroSkew, Fails, Setup, arrival_of}
+use Rattle.answer_texts.specs.Types.{ZeroSkew, Fails, Setup}
+use Rattle.cts_model.specs.Vocabulary.{arrival_of}
 use Rattle.cts_model.specs.declared.timing.ZeroSkew.TheVariants.{Floor}
 use Rattle.report_text.proofs.WordBytes.{number_word, fraction_word, quotient_word, register_word, slack_word}
 use Rattle.corners.specs.declared.outcome.CornersOutcome.TheVariants as outcomes

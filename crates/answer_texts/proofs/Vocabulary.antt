@@ -12,7 +12,18 @@ pub use Rattle.corners.specs.CornerOutcomes.{IsCornersOutcome, AreSmallCommonTim
 pub use Rattle.corners.specs.declared.outcome.CornersOutcome.{CornersOutcome}
 pub use Rattle.cts_base.specs.declared.fraction.Fraction.{Fraction}
 pub use Rattle.cts_model.proofs.PathRegisters.{tails_within, tail_within, head_within, pair_from, pair_to}
-pub use Rattle.cts_model.specs.Vocabulary.{Circuit, Constraint, PeriodShow, Cycle, Floor, Problem, Report, First, Second, Schedule, Slack, Tech, Topology, IsBetweenRegisters, ShowsPeriodAmong, count_in, IsOfSize, report_lines, pathed_lines, period_show_lines, lines_below, lead_line, merge_line_at, source_line, node_line_at, length_text, tree_lines, Words, text_of, show_lines, count_line, line_for, cycle_lines, line_of, constraint_line, IsConstraintOf, IsCycle, HasNoPeriod, IsForbidding, IsLeastFraction, IsPeriodShow}
+pub use Rattle.cts_model.specs.declared.circuit.Circuit.{Circuit}
+pub use Rattle.cts_model.specs.declared.constraint.Constraint.{Constraint}
+pub use Rattle.cts_model.specs.declared.period.PeriodShow.{PeriodShow}
+pub use Rattle.cts_model.specs.declared.period.PeriodShow.TheVariants.{Cycle, Floor}
+pub use Rattle.cts_model.specs.declared.problem.Problem.{Problem}
+pub use Rattle.cts_model.specs.declared.report.Report.{Report}
+pub use Rattle.cts_model.specs.declared.report.Version.TheVariants.{First, Second}
+pub use Rattle.cts_model.specs.declared.schedule.Schedule.{Schedule}
+pub use Rattle.cts_model.specs.declared.schedule.Slack.{Slack}
+pub use Rattle.cts_model.specs.declared.tech.Tech.{Tech}
+pub use Rattle.cts_model.specs.declared.tree.Topology.{Topology}
+pub use Rattle.cts_model.specs.Vocabulary.{IsBetweenRegisters, ShowsPeriodAmong, count_in, IsOfSize, report_lines, pathed_lines, period_show_lines, lines_below, lead_line, merge_line_at, source_line, node_line_at, length_text, tree_lines, Words, text_of, show_lines, count_line, line_for, cycle_lines, line_of, constraint_line, IsConstraintOf, IsCycle, HasNoPeriod, IsForbidding, IsLeastFraction, IsPeriodShow}
 pub use Rattle.outcomes.specs.CircuitMargins.{IsMarginOutcome, HasNoPath}
 pub use Rattle.outcomes.specs.declared.margin.MarginOutcome.{MarginOutcome}
 pub use Rattle.report_text.proofs.LineLemmas.{more_lines}

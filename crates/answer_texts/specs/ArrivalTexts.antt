@@ -2,7 +2,8 @@
 -- Optimization", 1990.
 use Rattle.std.specs.Prelude.{◌^◌, ℕ, pos, ◌≤ℤ◌, List, [], ◌∷◌, All, length, replicate, codes}
 use Rattle.cts_base.specs.Fractions.{HasSizeBelow, quotient_text}
-use Rattle.cts_model.specs.Vocabulary.{Circuit, Schedule, register_name, Words, count_line, lines_below, arrival_of}
+use Rattle.answer_texts.specs.Types.{Circuit, Schedule}
+use Rattle.cts_model.specs.Vocabulary.{register_name, Words, count_line, lines_below, arrival_of}
 
 -- a register and its arrival in ticks, by its number
 abbrev pub arrival_line : Circuit → Schedule → ℕ → Words

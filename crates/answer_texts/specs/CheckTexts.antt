@@ -1,7 +1,8 @@
 -- What the command `check` says of a report, whoever made it: that it shows what it says of the
 -- problem, or why it doesn't. Fishburn 1990; Boese and Kahng 1992; Chao and others 1992.
 use Rattle.std.specs.Prelude.{◌≡◌, ℕ, List, [], ◌∷◌, codes}
-use Rattle.cts_model.specs.Vocabulary.{Problem, Report, Words, text_of, IsShown, ShowsLeast}
+use Rattle.answer_texts.specs.Types.{Problem, Report}
+use Rattle.cts_model.specs.Vocabulary.{Words, text_of, IsShown, ShowsLeast}
 
 -- the line for a report that is shown
 abbrev pub shown_line : Words

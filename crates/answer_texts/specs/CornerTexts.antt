@@ -3,7 +3,8 @@
 -- 1990, in each corner.
 use Rattle.std.specs.Prelude.{◌≡◌, ◌+◌, ℕ, pos, List, [], ◌∷◌, ◌++◌, length, slice_index_or, codes}
 use Rattle.std.specs.Fmt.{signed_decimal}
-use Rattle.cts_model.specs.Vocabulary.{Circuit, Constraint, PeriodShow, Tech, Words, text_of, count_line, floor_line, line_for, period_line, lines_below}
+use Rattle.answer_texts.specs.Types.{Circuit, Constraint, PeriodShow, Tech}
+use Rattle.cts_model.specs.Vocabulary.{Words, text_of, count_line, floor_line, line_for, period_line, lines_below}
 use Rattle.cts_model.specs.declared.period.PeriodShow.TheVariants as shows
 use Rattle.corners.specs.declared.outcome.CornersOutcome.{CornersOutcome}
 use Rattle.corners.specs.declared.outcome.CornersOutcome.TheVariants.{Found, Never}

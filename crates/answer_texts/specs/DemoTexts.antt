@@ -1,7 +1,8 @@
 -- What the command `demo` prints: a summary of the clock tree of a demonstration, which `check`
 -- shows, or what forbids every period.
 use Rattle.std.specs.Prelude.{◌≡◌, ℕ, List, [], ◌∷◌, codes}
-use Rattle.cts_model.specs.Vocabulary.{Problem, Report, Words, text_of, count_line, period_line, IsWithinBounds, length_text}
+use Rattle.answer_texts.specs.Types.{Problem, Report}
+use Rattle.cts_model.specs.Vocabulary.{Words, text_of, count_line, period_line, IsWithinBounds, length_text}
 use Rattle.cert_check.specs.declared.verdict.Verdict.TheVariants.{Shown}
 use Rattle.cert_check.specs.Verdicts.{IsVerdict}
 use Rattle.answer_texts.specs.CheckTexts.{shown_line}

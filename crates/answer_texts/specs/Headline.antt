@@ -2,7 +2,8 @@
 -- schedule and wire are the least, and what shows them. Fishburn, "Clock Skew Optimization", 1990;
 -- Boese and Kahng 1992; Chao and others 1992.
 use Rattle.std.specs.Prelude.{◌≡◌, ℕ, List}
-use Rattle.cts_model.specs.Vocabulary.{Problem, Report, Second, Topology, IsGreedy, IsOfSize, report_lines, sinks_in, text_of, grid_of}
+use Rattle.answer_texts.specs.Types.{Problem, Report, Second, Topology}
+use Rattle.cts_model.specs.Vocabulary.{IsGreedy, IsOfSize, report_lines, sinks_in, text_of, grid_of}
 use Rattle.outcomes.specs.ShownCycles.{ShowsFromLowest}
 use Rattle.outcomes.specs.Syntheses.{IsSynthesis, ShowsSynthesis}
 

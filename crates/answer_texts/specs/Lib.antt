@@ -10,3 +10,4 @@ pub mod SynthTexts
 pub mod CheckTexts
 pub mod DemoTexts
 pub mod MoveTexts
+pub mod Types

@@ -3,7 +3,8 @@
 use Rattle.std.specs.Prelude.{◌≡◌, ℕ, List, [], ◌∷◌, ◌++◌, length, codes}
 use Rattle.cts_base.specs.declared.fraction.Fraction.{Fraction}
 use Rattle.cts_base.specs.Fractions.{fraction_text}
-use Rattle.cts_model.specs.Vocabulary.{Circuit, Tech, Words, text_of, period_line, cycle_lines}
+use Rattle.answer_texts.specs.Types.{Circuit, Tech}
+use Rattle.cts_model.specs.Vocabulary.{Words, text_of, period_line, cycle_lines}
 use Rattle.outcomes.specs.declared.margin.MarginOutcome.{MarginOutcome}
 use Rattle.outcomes.specs.declared.margin.MarginOutcome.TheVariants.{Found, Unbounded}
 use Rattle.outcomes.specs.CircuitMargins.{IsMarginOutcome}

@@ -2,7 +2,8 @@
 -- register, or what forbids every period. Boese and Kahng 1992; Chao and others 1992.
 use Rattle.std.specs.Prelude.{◌≡◌, ℕ, ℤ, List, [], ◌∷◌, length, map, slice_set}
 use Rattle.cts_base.specs.declared.fraction.Fraction.{Fraction}
-use Rattle.cts_model.specs.Vocabulary.{Point, Sink, Uv, Problem, Schedule, Merge, Show, Tree, IsLeastWire, RealisesOffsets, embedding_of, total_wire, IsGreedy, IsLeastFraction, rotated, text_of, grid_of, on_grid, sinks_of, IsLeastSchedule}
+use Rattle.answer_texts.specs.Types.{Point, Sink, Uv, Problem, Schedule, Merge, Show, Tree}
+use Rattle.cts_model.specs.Vocabulary.{IsLeastWire, RealisesOffsets, embedding_of, total_wire, IsGreedy, IsLeastFraction, rotated, text_of, grid_of, on_grid, sinks_of, IsLeastSchedule}
 use Rattle.move_session.specs.declared.moves.Move.{Move}
 use Rattle.outcomes.specs.Syntheses.{IsPlacedTree}
 use Rattle.report_text.specs.WireLines.{wire_line}

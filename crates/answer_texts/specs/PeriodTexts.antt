@@ -3,7 +3,8 @@
 use Rattle.std.specs.Prelude.{◌≡◌, ℕ, List, [], ◌∷◌, codes}
 use Rattle.std.specs.Fmt.{signed_decimal}
 use Rattle.cts_base.specs.declared.fraction.Fraction.{Fraction}
-use Rattle.cts_model.specs.Vocabulary.{Circuit, Constraint, PeriodShow, Tech, ZeroSkew, Words, text_of, period_line, cycle_lines, show_lines}
+use Rattle.answer_texts.specs.Types.{Circuit, Constraint, PeriodShow, Tech, ZeroSkew}
+use Rattle.cts_model.specs.Vocabulary.{Words, text_of, period_line, cycle_lines, show_lines}
 use Rattle.cts_model.specs.declared.timing.ZeroSkew.TheVariants as zeros
 use Rattle.outcomes.specs.declared.period.PeriodOutcome.{PeriodOutcome}
 use Rattle.outcomes.specs.declared.period.PeriodOutcome.TheVariants.{Found, Never}

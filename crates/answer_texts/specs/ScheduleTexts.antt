@@ -2,7 +2,8 @@
 -- reach each register and what the register has to spare. Fishburn, "Clock Skew Optimization",
 -- 1990.
 use Rattle.std.specs.Prelude.{◌≡◌, ◌^◌, ℕ, pos, ◌≤ℤ◌, List, ◌∷◌, ◌++◌, All, length, None, slice_index_or, codes}
-use Rattle.cts_model.specs.Vocabulary.{Circuit, Schedule, Slack, Tech, IsBelow, lines_below, Words, text_of, count_line, register_line, arrival_of}
+use Rattle.answer_texts.specs.Types.{Circuit, Schedule, Slack, Tech}
+use Rattle.cts_model.specs.Vocabulary.{IsBelow, lines_below, Words, text_of, count_line, register_line, arrival_of}
 use Rattle.outcomes.specs.declared.scheduling.ScheduleOutcome.{ScheduleOutcome}
 use Rattle.outcomes.specs.declared.scheduling.ScheduleOutcome.TheVariants.{Found, Never}
 use Rattle.outcomes.specs.PeriodOutcomes.{BeginsLowest}

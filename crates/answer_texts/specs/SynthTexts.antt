@@ -1,7 +1,8 @@
 -- What the commands `synth` and `embed` print: the report of a clock tree, or what forbids every
 -- period. Fishburn, "Clock Skew Optimization", 1990.
 use Rattle.std.specs.Prelude.{◌≡◌, ℕ, zero, suc, List}
-use Rattle.cts_model.specs.Vocabulary.{Circuit, Constraint, Problem, Tech, Topology, IsForbidding, Words, text_of, IsWithinBounds, report_lines}
+use Rattle.answer_texts.specs.Types.{Circuit, Constraint, Problem, Tech, Topology}
+use Rattle.cts_model.specs.Vocabulary.{IsForbidding, Words, text_of, IsWithinBounds, report_lines}
 use Rattle.outcomes.specs.declared.synthesis.Outcome.{Outcome}
 use Rattle.outcomes.specs.declared.synthesis.Outcome.TheVariants.{Done, Never}
 use Rattle.outcomes.specs.SynthesisOutcomes.{BeginsLowest}

@@ -1,6 +1,7 @@
 -- What the command `zero` prints.
 use Rattle.std.specs.Prelude.{◌≡◌, ℕ, ◌+ℤ◌, ◌-ℤ◌, List, [], ◌∷◌, codes}
-use Rattle.cts_model.specs.Vocabulary.{Circuit, Tech, ZeroSkew, Fails, Setup, IsZeroSkew, Words, text_of, floor_line, constraint_line}
+use Rattle.answer_texts.specs.Types.{Circuit, Tech, ZeroSkew, Fails, Setup}
+use Rattle.cts_model.specs.Vocabulary.{IsZeroSkew, Words, text_of, floor_line, constraint_line}
 use Rattle.cts_model.specs.declared.timing.ZeroSkew.TheVariants.{Floor}
 use Rattle.answer_texts.specs.PeriodTexts.{zero_line}
 

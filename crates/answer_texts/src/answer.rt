@@ -1,5 +1,6 @@
 ghost use Rattle.std.specs.Prelude.{◌≡◌, IfOk};
-ghost use Rattle.cts_model.specs.Vocabulary.{Tech, text_of, IsForbidding};
+ghost use Rattle.answer_texts.specs.Types.{Tech};
+ghost use Rattle.cts_model.specs.Vocabulary.{text_of, IsForbidding};
 ghost use Rattle.answer_texts.specs.Endings.{ending_status};
 ghost use Rattle.answer_texts.specs.PeriodTexts.{never_lines};
 

@@ -3,7 +3,8 @@
 ghost use Rattle.std.specs.Prelude.{◌≡◌, ◌<◌, ◌++◌, ◌∷◌, [], pos, All, List, length, OnOk, IfOk};
 ghost use Rattle.std.specs.Fmt.{signed_decimal};
 ghost use Rattle.cts_base.specs.declared.fraction.Fraction.{Fraction};
-ghost use Rattle.cts_model.specs.Vocabulary.{Tech, constraint_line, line_of, text_of, IsBetweenRegisters};
+ghost use Rattle.answer_texts.specs.Types.{Tech};
+ghost use Rattle.cts_model.specs.Vocabulary.{constraint_line, line_of, text_of, IsBetweenRegisters};
 ghost use Rattle.corners.specs.CornerCycles.{IsCommonShow};
 ghost use Rattle.corners.specs.CornerOutcomes.{HasSmallCommonTimes, IsCornersOutcome};
 ghost use Rattle.answer_texts.specs.Endings.{ending_status};

@@ -2,7 +2,8 @@
 
 ghost use Rattle.std.specs.Prelude.{◌≡◌, ◌++◌, OnOk, IfOk};
 ghost use Rattle.cts_base.specs.declared.fraction.Fraction.{Fraction};
-ghost use Rattle.cts_model.specs.Vocabulary.{Tech, line_of, text_of};
+ghost use Rattle.answer_texts.specs.Types.{Tech};
+ghost use Rattle.cts_model.specs.Vocabulary.{line_of, text_of};
 ghost use Rattle.outcomes.specs.CircuitMargins.{IsMarginOutcome, IsSmallOutcome};
 ghost use Rattle.answer_texts.specs.MarginTexts.{margin_line, margin_lines, spared_lines};
 

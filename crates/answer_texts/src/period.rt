@@ -1,7 +1,8 @@
 //! The text of the command `period`: the least period that any arrivals allow.
 
 ghost use Rattle.std.specs.Prelude.{◌≡◌, ◌++◌, OnOk, IfOk};
-ghost use Rattle.cts_model.specs.Vocabulary.{Tech, line_of, text_of, IsPeriodShow};
+ghost use Rattle.answer_texts.specs.Types.{Tech};
+ghost use Rattle.cts_model.specs.Vocabulary.{line_of, text_of, IsPeriodShow};
 ghost use Rattle.outcomes.specs.PeriodOutcomes.{IsPeriodOutcome};
 ghost use Rattle.answer_texts.specs.Endings.{ending_status};
 ghost use Rattle.answer_texts.specs.PeriodTexts.{zero_line, found_lines};

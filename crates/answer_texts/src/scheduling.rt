@@ -1,7 +1,8 @@
 //! The text of the command `schedule`: when the clock is to reach each register.
 
 ghost use Rattle.std.specs.Prelude.{◌≡◌, IfOk};
-ghost use Rattle.cts_model.specs.Vocabulary.{Tech, text_of};
+ghost use Rattle.answer_texts.specs.Types.{Tech};
+ghost use Rattle.cts_model.specs.Vocabulary.{text_of};
 ghost use Rattle.outcomes.specs.ScheduleOutcomes.{period_outcome, HasSmallTimes, IsScheduleOutcome};
 ghost use Rattle.answer_texts.specs.Endings.{ending_status};
 ghost use Rattle.answer_texts.specs.PeriodTexts.{outcome_status};

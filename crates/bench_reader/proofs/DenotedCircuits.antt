@@ -1,7 +1,8 @@
 -- What the circuit is whose parts the lines tell.
 use Rattle.bench_reader.proofs.Vocabulary.{◌≡◌, ℕ, ◌<◌, ◌==◌, if◌then◌else◌, Option, Some, None, inl, inr, List, length, map, ap, ◌∙◌, subst, arith, filter_map, option_or, IsFaultOf, first_fault, lines_of, IsCircuit, registers_of, definition_of, mention_of, statements_in, definitions_in, register_count, names_in, signal_of, BenchFault, CircuitParts, fault_of, netlist_fault, use_fault, HasParts, DenotesCircuit, UsesDefined}
 use Rattle.std.proofs.lemmas.Bool.{eq-eqb, ne_eqb}
-use Rattle.cts_model.specs.Vocabulary.{Circuit, HasNoHost}
+use Rattle.cts_model.specs.declared.circuit.Circuit.{Circuit}
+use Rattle.cts_model.specs.Vocabulary.{HasNoHost}
 use Rattle.bench_reader.specs.declared.fault.BenchFault.TheVariants as faults
 use Rattle.bench_reader.proofs.Lists.{All-filter_map}
 use Rattle.bench_reader.proofs.UseFaults.{none_undefined}

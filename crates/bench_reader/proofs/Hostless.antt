@@ -1,7 +1,7 @@
 -- No line defines the host.
 use Rattle.bench_reader.proofs.Vocabulary.{◌≡◌, ℕ, Bool, true, false, if◌then◌else◌, codes, List, Option, Some, None, IfSome, All, IsTrue, get_or, map, refl, sym, ap, ◌∙◌, true≢false, slice_get, option_map, str_eq_ignore_ascii_case, slice_get_within, get_or_from_slice_get, All-map, Kind, Signal, is_host, kind_of, has_host, Statement, Blank, Input, Output, Assign, Definition, definition_of, statements_in, definitions_in, signal_of}
 use Rattle.std.proofs.lemmas.List.Folds.{list_any_none}
-use Rattle.cts_model.specs.Vocabulary.{And, Nand, Or, Nor, Not, Xor, Xnor, Buff, Dff}
+use Rattle.cts_model.specs.declared.kind.Kind.TheVariants.{And, Nand, Or, Nor, Not, Xor, Xnor, Buff, Dff}
 use Rattle.bench_reader.proofs.Lists.{All-filter_map}
 
 -- a definition that isn't the host's

@@ -2,7 +2,9 @@
 use Rattle.std.specs.Prelude.{◌≡◌, ◌⊎◌, ℕ, List, [], map, Some, None}
 use Rattle.std.specs.Option.{option_map_or}
 use Rattle.std.specs.List.{slice_get}
-use Rattle.cts_model.specs.Vocabulary.{Circuit, Signal, registers_of, outputs_of, signals_of, IsLoop, IsNamedLoop}
+use Rattle.cts_model.specs.declared.circuit.Circuit.{Circuit}
+use Rattle.cts_model.specs.declared.signal.Signal.{Signal}
+use Rattle.cts_model.specs.Vocabulary.{registers_of, outputs_of, signals_of, IsLoop, IsNamedLoop}
 use Rattle.bench_reader.specs.declared.fault.BenchFault.{BenchFault}
 use Rattle.bench_reader.specs.declared.fault.BenchFault.TheVariants.{CombLoop}
 use Rattle.bench_reader.specs.Faults.{netlist_fault}

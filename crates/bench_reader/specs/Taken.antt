@@ -3,7 +3,9 @@ use Rattle.std.specs.Prelude.{◌≡◌, ◌+◌, ℕ, Bool, nat_le, nat_lt, if�
 use Rattle.std.specs.Option.{option_map}
 use Rattle.std.specs.List.{filter_map, list_any}
 use Rattle.std.specs.Str.{bytes_eq}
-use Rattle.cts_model.specs.Vocabulary.{Kind, Circuit, is_register, is_gate, registers_of, mention_of, definitions_in, defined_names, register_count, gate_input_count, statements_in, signal_of, signals_of, outputs_of, number_of, first_mentions}
+use Rattle.cts_model.specs.declared.kind.Kind.{Kind}
+use Rattle.cts_model.specs.declared.circuit.Circuit.{Circuit}
+use Rattle.cts_model.specs.Vocabulary.{is_register, is_gate, registers_of, mention_of, definitions_in, defined_names, register_count, gate_input_count, statements_in, signal_of, signals_of, outputs_of, number_of, first_mentions}
 use Rattle.bench_reader.specs.declared.fault.Which.{Which}
 use Rattle.bench_reader.specs.declared.fault.Which.TheVariants.{Name, Signals, Registers, Inputs}
 use Rattle.bench_reader.specs.declared.fault.BenchFault.{BenchFault}

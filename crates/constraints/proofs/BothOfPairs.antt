@@ -3,7 +3,9 @@ use Rattle.std.proofs.Common.{◌≡◌, ◌<◌, ◌+◌, ℕ, List, [], ◌∷
 use Rattle.std.specs.List.{All}
 use Rattle.std.proofs.lemmas.List.{append_assoc, flat_map_more, take_more}
 use Rattle.std.proofs.lemmas.List.Elements.{All-nil, All-cons, All-head, All-tail}
-use Rattle.cts_model.specs.Vocabulary.{Tech, PairDelay, Constraint}
+use Rattle.cts_model.specs.declared.tech.Tech.{Tech}
+use Rattle.cts_model.specs.declared.timing.PairDelay.{PairDelay}
+use Rattle.cts_model.specs.declared.constraint.Constraint.{Constraint}
 use Rattle.constraints.specs.PairConstraints.{setup_constraint, hold_constraint, constraints_of_pair, constraints_of_pairs}
 
 -- both constraints of the pair have the property

@@ -3,7 +3,11 @@ use Rattle.std.proofs.Common.{◌≡◌, ◌<◌, ◌≤◌, ℕ, ℤ, ◌+ℤ�
 use Rattle.std.specs.List.{All}
 use Rattle.std.proofs.lemmas.Int.{ints}
 use Rattle.std.proofs.lemmas.List.Elements.{All-weaker}
-use Rattle.cts_model.specs.Vocabulary.{Circuit, Tech, PairDelay, Constraint, IsPath, least_delay, greatest_delay, IsPairDelay, Meets, ListsPairs, IsSmallPair, IsSatisfied, Satisfies, IsConstraintOf, IsSmallConstraint, AreSmallConstraints}
+use Rattle.cts_model.specs.declared.circuit.Circuit.{Circuit}
+use Rattle.cts_model.specs.declared.tech.Tech.{Tech}
+use Rattle.cts_model.specs.declared.timing.PairDelay.{PairDelay}
+use Rattle.cts_model.specs.declared.constraint.Constraint.{Constraint}
+use Rattle.cts_model.specs.Vocabulary.{IsPath, least_delay, greatest_delay, IsPairDelay, Meets, ListsPairs, IsSmallPair, IsSatisfied, Satisfies, IsConstraintOf, IsSmallConstraint, AreSmallConstraints}
 use Rattle.cts_model.proofs.PathRegisters.{launches_within, captures_within}
 use Rattle.constraints.specs.PairConstraints.{constraints_of_pairs, AreFewPairs}
 use Rattle.constraints.proofs.BothOfPairs.{HaveBoth, all_from_each, each_from_all, two_for_each}

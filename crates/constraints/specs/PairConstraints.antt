@@ -2,7 +2,9 @@
 -- Skew Optimization", 1990.
 use Rattle.std.specs.Prelude.{◌<◌, ◌≤◌, ℕ, ℤ, ◌+ℤ◌, ◌-ℤ◌, true, false, List, [], ◌∷◌, length, All}
 use Rattle.std.specs.List.{flat_map}
-use Rattle.cts_model.specs.Vocabulary.{Tech, PairDelay, Constraint}
+use Rattle.cts_model.specs.declared.tech.Tech.{Tech}
+use Rattle.cts_model.specs.declared.timing.PairDelay.{PairDelay}
+use Rattle.cts_model.specs.declared.constraint.Constraint.{Constraint}
 
 -- what a pair launches settles, after its greatest delay, the setup time before it is captured
 abbrev pub setup_constraint : ℤ → PairDelay → Constraint

@@ -1,5 +1,6 @@
 ghost use Rattle.std.specs.Prelude.{◌≡◌, ◌≤◌, ◌↔◌, ℕ, ℤ, length, All, IfOk};
-ghost use Rattle.cts_model.specs.Vocabulary.{Circuit, Meets, ListsPairs, IsSmallPair, Satisfies, IsConstraintOf, AreSmallConstraints};
+ghost use Rattle.cts_model.specs.declared.circuit.Circuit.{Circuit};
+ghost use Rattle.cts_model.specs.Vocabulary.{Meets, ListsPairs, IsSmallPair, Satisfies, IsConstraintOf, AreSmallConstraints};
 ghost use Rattle.constraints.specs.PairConstraints.{setup_constraint, hold_constraint, constraints_of_pairs, AreFewPairs};
 
 use cts_base::{Listed, NoMemory};

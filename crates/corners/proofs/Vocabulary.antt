@@ -11,7 +11,11 @@ pub use Rattle.std.specs.List.{All, slice_get, cons_option, filter_map, Any}
 pub use Rattle.std.specs.Prelude.{IsSomeAnd, MatchBool, nat_abs}
 pub use Rattle.critical_cycle.specs.Floors.{IsSmallFloor}
 pub use Rattle.cts_model.proofs.ScaleLemmas.{scale_le, size_same}
-pub use Rattle.cts_model.specs.Vocabulary.{Circuit, Constraint, Tech, PairDelay, IsConstraintOf, Satisfies, IsSetupConstraint, IsHoldConstraint, IsSatisfied, AreSmallConstraints}
+pub use Rattle.cts_model.specs.declared.circuit.Circuit.{Circuit}
+pub use Rattle.cts_model.specs.declared.constraint.Constraint.{Constraint}
+pub use Rattle.cts_model.specs.declared.tech.Tech.{Tech}
+pub use Rattle.cts_model.specs.declared.timing.PairDelay.{PairDelay}
+pub use Rattle.cts_model.specs.Vocabulary.{IsConstraintOf, Satisfies, IsSetupConstraint, IsHoldConstraint, IsSatisfied, AreSmallConstraints}
 pub use Rattle.corners.specs.CommonPeriods.{MeetsEach, AreLeastCommonArrivals, HasNoCommonPeriod, IsAboveFloors, IsCommonPeriod, IsLeastCommonPeriod}
 pub use Rattle.corners.specs.CornerConstraints.{AreCommonConstraints, AreConstraintsBy, IsCombined, IsGreatestOf}
 pub use Rattle.corners.specs.CornerCycles.{IsConstraintIn, IsOfCorner, AreOfCorners, IsCommonCritical, IsCommonForbidding, IsGreatestFloor}

@@ -2,7 +2,8 @@
 -- Skew Optimization", 1990, in each corner. Times are in ticks over a scale.
 use Rattle.std.specs.Prelude.{◌<◌, ◌≤◌, ◌*◌, ◌≡◌, ℕ, ℤ, pos, ◌*ℤ◌, ◌≤ℤ◌, ◌<ℤ◌, List, All, length, nat_abs}
 use Rattle.cts_base.specs.declared.fraction.Fraction.{Fraction}
-use Rattle.cts_model.specs.Vocabulary.{Circuit, Schedule, Tech, arrival_of, AreFromZero, Meets}
+use Rattle.corners.specs.Types.{Circuit, Schedule, Tech}
+use Rattle.cts_model.specs.Vocabulary.{arrival_of, AreFromZero, Meets}
 
 -- the arrivals meet the period over every path, by the table of each corner
 abbrev pub MeetsEach : Circuit → List Tech → (scale : ℕ) (period : ℤ) (arrival : ℕ → ℤ) → Type 0

@@ -1,7 +1,8 @@
 -- The constraints of one circuit by the table of each corner, and the combined list of them.
 -- Fishburn, "Clock Skew Optimization", 1990.
 use Rattle.std.specs.Prelude.{◌≡◌, ◌<◌, ◌↔◌, ℕ, ℤ, ◌≤ℤ◌, List, length, All, Any}
-use Rattle.cts_model.specs.Vocabulary.{Circuit, Constraint, Tech, PairDelay, AreSmallConstraints, IsConstraintOf, Satisfies, ListsPairs, Meets}
+use Rattle.corners.specs.Types.{Circuit, Constraint, Tech, PairDelay}
+use Rattle.cts_model.specs.Vocabulary.{AreSmallConstraints, IsConstraintOf, Satisfies, ListsPairs, Meets}
 use Rattle.constraints.specs.PairConstraints.{constraints_of_pairs}
 use Rattle.corners.specs.declared.fold.Combined.{Combined}
 use Rattle.corners.specs.CommonPeriods.{MeetsEach}

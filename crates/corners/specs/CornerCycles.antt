@@ -2,7 +2,8 @@
 -- Optimization", 1990. Times are in ticks.
 use Rattle.std.specs.Prelude.{◌≡◌, ◌<◌, ℕ, pos, ◌*ℤ◌, ◌≤ℤ◌, ◌<ℤ◌, List, [], length, All, Any, IsSomeAnd, nat_abs, slice_get, slice_index_or}
 use Rattle.cts_base.specs.declared.fraction.Fraction.{Fraction}
-use Rattle.cts_model.specs.Vocabulary.{Circuit, Constraint, PeriodShow, Cycle, Floor, Tech, IsConstraintOf, ShowsPeriod, ForbidsPeriods}
+use Rattle.corners.specs.Types.{Circuit, Constraint, PeriodShow, Cycle, Floor, Tech}
+use Rattle.cts_model.specs.Vocabulary.{IsConstraintOf, ShowsPeriod, ForbidsPeriods}
 use Rattle.corners.specs.CornerLists.{AreAlike, constraint_at}
 
 -- the constraint is one of the circuit by the table of the corner

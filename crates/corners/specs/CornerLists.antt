@@ -2,7 +2,7 @@
 -- place, and other weights. Fishburn, "Clock Skew Optimization", 1990.
 use Rattle.std.specs.Prelude.{◌≡◌, ◌<◌, ◌≤◌, ℕ, pos, false, List, [], length, All}
 use Rattle.std.specs.List.{slice_index_or}
-use Rattle.cts_model.specs.Vocabulary.{Constraint}
+use Rattle.corners.specs.Types.{Constraint}
 
 -- what is read past the end of a list
 abbrev pub no_constraint : Constraint

@@ -2,7 +2,8 @@
 -- all of them, or what forbids every period. Fishburn, "Clock Skew Optimization", 1990.
 use Rattle.std.specs.Prelude.{◌^◌, ℕ, List, All}
 use Rattle.cts_base.specs.declared.fraction.Fraction.{Fraction}
-use Rattle.cts_model.specs.Vocabulary.{Circuit, PeriodShow, Cycle, Floor, Schedule, Tech, IsBelow, IsSmallPeriod}
+use Rattle.corners.specs.Types.{Circuit, PeriodShow, Cycle, Floor, Schedule, Tech}
+use Rattle.cts_model.specs.Vocabulary.{IsBelow, IsSmallPeriod}
 use Rattle.critical_cycle.specs.CyclePlaces.{IsFromLowest}
 use Rattle.corners.specs.declared.outcome.CornersOutcome.{CornersOutcome}
 use Rattle.corners.specs.declared.outcome.CornersOutcome.TheVariants.{Found, Never}

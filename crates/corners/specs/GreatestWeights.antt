@@ -1,7 +1,7 @@
 -- The corner that asks for the most at a place of the lists of constraints.
 use Rattle.std.specs.Prelude.{◌≡◌, ◌<◌, ℕ, ℤ, ◌≤ℤ◌, ◌<ℤ◌, List, length}
 use Rattle.std.specs.List.{slice_index_or}
-use Rattle.cts_model.specs.Vocabulary.{Constraint}
+use Rattle.corners.specs.Types.{Constraint}
 use Rattle.corners.specs.CornerLists.{constraint_at, list_of}
 
 -- the weight at a place of a corner's list

@@ -1,6 +1,6 @@
 -- How the constraint of a further corner is included in the combined list of those before it.
 use Rattle.std.specs.Prelude.{◌≡◌, ◌⊎◌, ℕ, ◌≤ℤ◌, ◌<ℤ◌, slice_set}
-use Rattle.cts_model.specs.Vocabulary.{Constraint}
+use Rattle.corners.specs.Types.{Constraint}
 use Rattle.corners.specs.declared.fold.Combined.{Combined}
 use Rattle.corners.specs.CornerLists.{constraint_at}
 

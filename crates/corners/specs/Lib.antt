@@ -6,3 +6,4 @@ pub mod CornerConstraints
 pub mod CornerOutcomes
 pub mod Inclusions
 pub mod NamedPlaces
+pub mod Types

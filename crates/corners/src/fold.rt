@@ -1,5 +1,5 @@
 ghost use Rattle.std.specs.Prelude.{◌≡◌, ◌<◌, ◌++◌, ◌∷◌, [], List, IfOk, length};
-ghost use Rattle.cts_model.specs.Vocabulary.{Constraint};
+ghost use Rattle.corners.specs.Types.{Constraint};
 ghost use Rattle.critical_cycle.specs.CyclePlaces.{AreWithin};
 
 use cts_base::{Listed, NoMemory};

@@ -1,6 +1,7 @@
 -- Texts that are accepted aren't refused, and what a refusal leaves of a call.
 use Rattle.cts_c.proofs.Vocabulary.{◌≡◌, ℕ, List, inr, refl, JoinsMoreThan, table_accepted, table_fine, AreBothRefused, AreRefused, FailsFor, refusal_failure, pair_failure, Failure, Refused, NoMemory}
-use Rattle.cts_model.specs.Vocabulary.{Circuit, Tech}
+use Rattle.cts_model.specs.declared.circuit.Circuit.{Circuit}
+use Rattle.cts_model.specs.declared.tech.Tech.{Tech}
 use Rattle.bench_reader.proofs.OneFault.{no_fault}
 use Rattle.path_delays.specs.JoinedPairs.{ShowsTooMany}
 use Rattle.path_delays.specs.declared.fault.PairFault.{PairFault}

@@ -1,7 +1,8 @@
 -- What `cts_check` finds of a report, whoever made it: that it shows what it says of the problem,
 -- or why it doesn't. Fishburn 1990; Boese and Kahng 1992; Chao and others 1992.
 use Rattle.std.specs.Prelude.{◌≡◌, ◌≢◌, ℕ, List, Some}
-use Rattle.cts_model.specs.Vocabulary.{Problem, Spells, IsShown, ShowsLeast}
+use Rattle.cts_model.specs.declared.problem.Problem.{Problem}
+use Rattle.cts_model.specs.Vocabulary.{Spells, IsShown, ShowsLeast}
 use Rattle.cts_model.specs.declared.report.Report as reports
 use Rattle.cert_check.specs.Verdicts.{IsVerdict}
 use Rattle.cert_check.specs.declared.verdict.Reason.{Reason}

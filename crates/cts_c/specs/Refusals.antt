@@ -1,7 +1,10 @@
 -- Why texts are refused: one is too long, or they are judged so; and why a circuit is, though they
 -- are accepted.
 use Rattle.std.specs.Prelude.{◌≢◌, ◌≤◌, ◌⊎◌, ℕ, List, length}
-use Rattle.cts_model.specs.Vocabulary.{Circuit, Problem, Tech, JoinsMoreThan}
+use Rattle.cts_model.specs.declared.circuit.Circuit.{Circuit}
+use Rattle.cts_model.specs.declared.problem.Problem.{Problem}
+use Rattle.cts_model.specs.declared.tech.Tech.{Tech}
+use Rattle.cts_model.specs.Vocabulary.{JoinsMoreThan}
 use Rattle.cts_engine.specs.Accepted.{TellBoth, TellAll, IsCircuitRefusal, IsRefusal}
 use Rattle.cts_engine.specs.declared.refusals.Refusal.{Refusal}
 use Rattle.cts_engine.specs.declared.refusals.Refusal.TheVariants as refusals

@@ -2,7 +2,9 @@
 -- the register has to spare, or what forbids every period. Fishburn, "Clock Skew Optimization",
 -- 1990.
 use Rattle.std.specs.Prelude.{◌≡◌, ◌↔◌, ℕ, List}
-use Rattle.cts_model.specs.Vocabulary.{Circuit, Tech, text_of, HasNoPeriod, JoinsMoreThan}
+use Rattle.cts_model.specs.declared.circuit.Circuit.{Circuit}
+use Rattle.cts_model.specs.declared.tech.Tech.{Tech}
+use Rattle.cts_model.specs.Vocabulary.{text_of, HasNoPeriod, JoinsMoreThan}
 use Rattle.cts_engine.specs.Accepted.{TellBoth}
 use Rattle.outcomes.specs.PeriodOutcomes.{BeginsLowest, IsNeverOutcome}
 use Rattle.outcomes.specs.ScheduleOutcomes.{period_outcome, IsScheduleOutcome}

@@ -1,7 +1,8 @@
 -- What `cts_synth` answers: the report of a clock tree, or what forbids every period. Fishburn,
 -- "Clock Skew Optimization", 1990.
 use Rattle.std.specs.Prelude.{◌≡◌, ◌↔◌, ℕ, List}
-use Rattle.cts_model.specs.Vocabulary.{Problem, text_of, HasNoPeriod, JoinsMoreThan}
+use Rattle.cts_model.specs.declared.problem.Problem.{Problem}
+use Rattle.cts_model.specs.Vocabulary.{text_of, HasNoPeriod, JoinsMoreThan}
 use Rattle.cts_engine.specs.Accepted.{TellAll}
 use Rattle.outcomes.specs.SynthesisOutcomes.{BeginsLowest, IsNeverOutcome, IsOutcome, IsShownOutcome}
 use Rattle.outcomes.specs.declared.synthesis.Outcome.{Outcome}

@@ -1,7 +1,9 @@
 //! `cts_schedule`: the least schedule of a circuit at its least period.
 
 ghost use Rattle.std.specs.Prelude.{◌≡◌, ◌≢◌, ℕ, List, IfOk, IfErr};
-ghost use Rattle.cts_model.specs.Vocabulary.{Circuit, Tech, IsLoop, text_of, JoinsMoreThan};
+ghost use Rattle.cts_model.specs.declared.circuit.Circuit.{Circuit};
+ghost use Rattle.cts_model.specs.declared.tech.Tech.{Tech};
+ghost use Rattle.cts_model.specs.Vocabulary.{IsLoop, text_of, JoinsMoreThan};
 ghost use Rattle.outcomes.specs.ScheduleOutcomes.{period_outcome, HasSmallTimes, IsScheduleOutcome};
 ghost use Rattle.cts_engine.specs.Accepted.{TellBoth};
 ghost use Rattle.cts_c.specs.Buffers.{IsHanded, IsTooLarge, IsNone};

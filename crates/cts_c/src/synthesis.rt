@@ -1,7 +1,9 @@
 //! `cts_synth`: the clock tree of a problem.
 
 ghost use Rattle.std.specs.Prelude.{◌≡◌, ◌≢◌, ℕ, List, IfOk, IfErr};
-ghost use Rattle.cts_model.specs.Vocabulary.{Problem, Topology, text_of, JoinsMoreThan};
+ghost use Rattle.cts_model.specs.declared.problem.Problem.{Problem};
+ghost use Rattle.cts_model.specs.declared.tree.Topology.{Topology};
+ghost use Rattle.cts_model.specs.Vocabulary.{text_of, JoinsMoreThan};
 ghost use Rattle.outcomes.specs.SynthesisOutcomes.{IsOutcomeWith};
 ghost use Rattle.cts_engine.specs.Accepted.{TellAll};
 ghost use Rattle.cts_c.specs.Buffers.{IsHanded, IsTooLarge, IsNone};

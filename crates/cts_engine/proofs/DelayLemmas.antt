@@ -1,6 +1,6 @@
 -- How large the weights of a circuit's constraints are, and what its registers have to spare.
 use Rattle.cts_engine.proofs.Vocabulary.{◌≡◌, ◌≤◌, ◌^◌, ℕ, ℤ, pos, ◌+ℤ◌, ◌*ℤ◌, Option, Some, None, Bool, true, false, List, get_or, sym, ap, subst, ◌∙◌, arith, All, MatchBool, nat_abs, ints, slice_get-get_or, Fraction, Circuit, Constraint, Schedule, Tech, PairDelay, IsConstraintOf, IsHoldConstraint, IsSetupConstraint, least_delay, greatest_delay, IsPairDelay, IsSmallPair, IsPath, IsBelow, AreSmallSlacks, IsSmallSlack, IsSmallPeriod, arrival_of, AreSlacks, IsLeastSpare, IsSlackOf, hold_spare, setup_spare, IsWithin, scale_le, size_same, HasSmallPairs}
-use Rattle.cts_model.specs.Vocabulary.{Slack}
+use Rattle.cts_engine.specs.Types.{Slack}
 use Rattle.path_delays.specs.JoinedPairs.{ArePairs}
 
 -- listed pairs have small delays

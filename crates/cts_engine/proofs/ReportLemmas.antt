@@ -1,7 +1,8 @@
 -- The times and the tree of a problem make its report.
 use Rattle.cts_engine.proofs.Vocabulary.{◌≡◌, ◌+◌, List, length, refl, sym, subst, ◌∙◌, arith, All, slice_get, Constraint, Problem, Report, Wire, embedding_of, grid_of, HasTimingBounds, HasTreeBounds, IsOfSize, ShowsAmong, root_of, source_of, least_for_schedule, length-sinks_of, offsets_are_skews, realised_meets, reaches_realise, reach_in, IsClockTree, AreTimes, HasLeastPeriod, sinks_in, source_in, IsReportWith}
 use Rattle.std.specs.Prelude.{Some}
-use Rattle.cts_model.specs.Vocabulary.{Second, RealisesSchedule}
+use Rattle.cts_engine.specs.Types.{Second}
+use Rattle.cts_model.specs.Vocabulary.{RealisesSchedule}
 use Rattle.cts_engine.specs.declared.clock_tree.ClockTree.{ClockTree}
 use Rattle.cts_engine.specs.declared.times.Times.{Times}
 use Rattle.cts_engine.proofs.CycleLengths.{few_registers}

@@ -1,7 +1,8 @@
 -- The report of a problem shows what it says.
 use Rattle.cts_engine.proofs.Vocabulary.{◌≡◌, ◌⊎◌, ◌<◌, ◌-◌, ℕ, zero, suc, ℤ, ◌*ℤ◌, ◌≤ℤ◌, List, [], ◌∷◌, length, Bool, true, false, Option, Some, None, inl, inr, refl, sym, ap, subst, ◌∙◌, arith, All, IfSome, MatchBool, nat_le, slice_get, ints, IfSome_then, get_or_from_slice_get, slice_get_within, Fraction, Circuit, Constraint, PeriodShow, Cycle, Floor, Sink, Uv, Problem, Report, Lead, Zero, Tight, Tech, Merge, Show, Tree, ArePathsOf, ArePathsWithin, GivesWeight, IsConstraintOf, Embedding, embedding_of, IsLead, ShowsEarliest, IsPeriodShow, rotated, AtEach, IsShown, IsShownLeast, IsShownTiming, IsShownTree, cycle_of, sinks_in, source_in, IsTopology, size_same, wires_are_left, IsPlacedTree, reach_in, IsReportWith, IsSynthesis, ShowsSynthesis}
 use Rattle.std.proofs.Math.IntN.{*ℤ_comm}
-use Rattle.cts_model.specs.Vocabulary.{Topology, GivesPeriod, HasShape, HoldsTogether, IsGivenPath, IsOfCircuit, IsReachShown, IsSkewed}
+use Rattle.cts_engine.specs.Types.{Topology}
+use Rattle.cts_model.specs.Vocabulary.{GivesPeriod, HasShape, HoldsTogether, IsGivenPath, IsOfCircuit, IsReachShown, IsSkewed}
 use Rattle.cts_model.proofs.RoundLemmas.{cycle_holds_together}
 use Rattle.cts_model.proofs.ShownTrees.{scaled-once}
 

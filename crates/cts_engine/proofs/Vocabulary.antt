@@ -24,7 +24,27 @@ pub use Rattle.cts_model.proofs.ScaleLemmas.{scale_le, size_same, scale-finer}
 pub use Rattle.cts_model.proofs.SkewLemmas.{least_for_schedule, length-sinks_of, offsets_are_skews, realised_meets, sink_at}
 pub use Rattle.cts_model.proofs.TopologyLemmas.{some_and, first_made, merge_at, merge_here, second_made}
 pub use Rattle.cts_model.proofs.TreeLemmas.{reaches_realise, wires_are_left, shown_reaches_are_least}
-pub use Rattle.cts_model.specs.Vocabulary.{Circuit, Constraint, PeriodShow, Cycle, Floor, Places, Point, Sink, Uv, Problem, Report, Lead, Zero, Tight, Schedule, Signal, Tech, PairDelay, Merge, Show, Tree, Wire, has_host, host_signal, IsWithHost, HasNoHost, is_host, is_gate, Follows, IsInput, IsPath, Launches, Reads, IsLoop, AreUsedKinds, IsBelow, IsPointBelow, rotated, IsMultipleOf, IsUvBelow, IsUvMultipleOf, apart, distance, IsSmallWire, HasTimingBounds, HasTreeBounds, IsOfSize, ShowsAmong, HasSmallWeight, HasSmallWeights, IsSmallLead, LeadsAmong, ShowsPeriodAmong, cycle_length, IsMergeShow, IsSmallMerge, IsSourceShow, sinks_in, source_in, AtEach, IsShown, IsShownLeast, IsShownTiming, IsShownTree, cycle_of, ArePathsWithin, GivesWeight, ArePathsOf, IsConstraintOf, IsHoldConstraint, IsSetupConstraint, IsCycle, IsLeastPeriodOf, greatest_delay, least_delay, delay_of, IsPairDelay, EachLead, IsLead, lead_at, ShowsEarliest, depth_of, IsLeastFraction, IsForbidding, IsPeriodShow, HasNoPeriod, IsSmallPair, ListsPairs, AreFromZero, IsSmallPeriod, arrival_of, AreLeastArrivals, AreSmallSlacks, IsSmallSlack, AreSlacks, IsLeastSpare, IsSlackOf, hold_spare, setup_spare, embedding_of, Embedding, IsLeastWire, total_length, total_wire, IsGreedy, IsProblem, GivesUsedKinds, grid_of, on_grid, sink_of, sinks_of, scheduled_length, steps_of_micro, ShowsMerge, ShowsSource, AreShown, AreShownBy, AreTreeSinks, IsTreeSink, IsParent, IsTopology, Joins, root_of, source_of, numbers_below}
+pub use Rattle.cts_model.specs.declared.circuit.Circuit.{Circuit}
+pub use Rattle.cts_model.specs.declared.constraint.Constraint.{Constraint}
+pub use Rattle.cts_model.specs.declared.period.PeriodShow.{PeriodShow}
+pub use Rattle.cts_model.specs.declared.period.PeriodShow.TheVariants.{Cycle, Floor}
+pub use Rattle.cts_model.specs.declared.place.Places.{Places}
+pub use Rattle.cts_model.specs.declared.place.Point.{Point}
+pub use Rattle.cts_model.specs.declared.place.Sink.{Sink}
+pub use Rattle.cts_model.specs.declared.place.Uv.{Uv}
+pub use Rattle.cts_model.specs.declared.problem.Problem.{Problem}
+pub use Rattle.cts_model.specs.declared.report.Report.{Report}
+pub use Rattle.cts_model.specs.declared.schedule.Lead.{Lead}
+pub use Rattle.cts_model.specs.declared.schedule.Lead.TheVariants.{Zero, Tight}
+pub use Rattle.cts_model.specs.declared.schedule.Schedule.{Schedule}
+pub use Rattle.cts_model.specs.declared.signal.Signal.{Signal}
+pub use Rattle.cts_model.specs.declared.tech.Tech.{Tech}
+pub use Rattle.cts_model.specs.declared.timing.PairDelay.{PairDelay}
+pub use Rattle.cts_model.specs.declared.tree.Merge.{Merge}
+pub use Rattle.cts_model.specs.declared.tree.Show.{Show}
+pub use Rattle.cts_model.specs.declared.tree.Tree.{Tree}
+pub use Rattle.cts_model.specs.declared.tree.Wire.{Wire}
+pub use Rattle.cts_model.specs.Vocabulary.{has_host, host_signal, IsWithHost, HasNoHost, is_host, is_gate, Follows, IsInput, IsPath, Launches, Reads, IsLoop, AreUsedKinds, IsBelow, IsPointBelow, rotated, IsMultipleOf, IsUvBelow, IsUvMultipleOf, apart, distance, IsSmallWire, HasTimingBounds, HasTreeBounds, IsOfSize, ShowsAmong, HasSmallWeight, HasSmallWeights, IsSmallLead, LeadsAmong, ShowsPeriodAmong, cycle_length, IsMergeShow, IsSmallMerge, IsSourceShow, sinks_in, source_in, AtEach, IsShown, IsShownLeast, IsShownTiming, IsShownTree, cycle_of, ArePathsWithin, GivesWeight, ArePathsOf, IsConstraintOf, IsHoldConstraint, IsSetupConstraint, IsCycle, IsLeastPeriodOf, greatest_delay, least_delay, delay_of, IsPairDelay, EachLead, IsLead, lead_at, ShowsEarliest, depth_of, IsLeastFraction, IsForbidding, IsPeriodShow, HasNoPeriod, IsSmallPair, ListsPairs, AreFromZero, IsSmallPeriod, arrival_of, AreLeastArrivals, AreSmallSlacks, IsSmallSlack, AreSlacks, IsLeastSpare, IsSlackOf, hold_spare, setup_spare, embedding_of, Embedding, IsLeastWire, total_length, total_wire, IsGreedy, IsProblem, GivesUsedKinds, grid_of, on_grid, sink_of, sinks_of, scheduled_length, steps_of_micro, ShowsMerge, ShowsSource, AreShown, AreShownBy, AreTreeSinks, IsTreeSink, IsParent, IsTopology, Joins, root_of, source_of, numbers_below}
 pub use Rattle.cts_model.specs.table.AcceptedTables.{AcceptsTable, GivesKinds}
 pub use Rattle.cts_model.specs.table.Tables.{IsWithin}
 pub use Rattle.delay_tables.specs.declared.fault.TechFault.{TechFault}

@@ -1,7 +1,8 @@
 -- What the texts of a problem tell: a circuit, its delays and its places, or why one of them is
 -- refused. The netlist comes first, then the delay table and then the placement.
 use Rattle.std.specs.Prelude.{◌≡◌, ◌≢◌, ◌==◌, ℕ, Bool, List, length, MatchBool}
-use Rattle.cts_model.specs.Vocabulary.{Circuit, Problem, Signal, Tech, IsWithHost, signals_of, AreUsedKinds}
+use Rattle.cts_engine.specs.Types.{Circuit, Problem, Signal, Tech}
+use Rattle.cts_model.specs.Vocabulary.{IsWithHost, signals_of, AreUsedKinds}
 use Rattle.cts_model.specs.table.AcceptedTables.{IsDelayTable, AcceptsTable}
 use Rattle.bench_reader.specs.declared.fault.BenchFault.{BenchFault}
 use Rattle.bench_reader.specs.declared.fault.BenchFault.TheVariants as bench

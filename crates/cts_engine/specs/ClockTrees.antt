@@ -1,6 +1,7 @@
 -- The tree of a report, with what keeps its numbers within the bounds of a report.
 use Rattle.std.specs.Prelude.{◌≡◌, ◌+◌, ◌*◌, ◌^◌, ℕ, ℤ, List, All, length}
-use Rattle.cts_model.specs.Vocabulary.{Sink, Uv, Merge, Show, Tree, Wire, IsBelow, IsSmallWire, IsLeastWire, embedding_of, total_wire, IsTopology}
+use Rattle.cts_engine.specs.Types.{Sink, Uv, Merge, Show, Tree, Wire}
+use Rattle.cts_model.specs.Vocabulary.{IsBelow, IsSmallWire, IsLeastWire, embedding_of, total_wire, IsTopology}
 use Rattle.place_down.specs.Trees.{HasTreeNumbers, IsPlacedTree}
 use Rattle.cts_engine.specs.TreeParts.{AreDrawn}
 use Rattle.cts_engine.specs.declared.clock_tree.ClockTree.{ClockTree}

@@ -6,3 +6,4 @@ pub mod ClockTrees
 pub mod RegisterTimes
 pub mod SinkOutcomes
 pub mod SessionOutcomes
+pub mod Types

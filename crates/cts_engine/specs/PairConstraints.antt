@@ -1,6 +1,7 @@
 -- What the delays of all joined pairs ask of the arrivals of a circuit.
 use Rattle.std.specs.Prelude.{◌↔◌, ℕ, ℤ, List, All}
-use Rattle.cts_model.specs.Vocabulary.{Circuit, Tech, PairDelay, Constraint, IsPath, Meets, IsConstraintOf, Satisfies}
+use Rattle.cts_engine.specs.Types.{Circuit, Tech, PairDelay, Constraint}
+use Rattle.cts_model.specs.Vocabulary.{IsPath, Meets, IsConstraintOf, Satisfies}
 use Rattle.path_delays.specs.JoinedPairs.{IsDelayBetween}
 
 -- constraints of the circuit, and whoever satisfies them meets the period over every path

@@ -2,7 +2,8 @@
 -- Optimization", 1990.
 use Rattle.std.specs.Prelude.{◌≡◌, ◌≤◌, ℕ, ℤ, List, length}
 use Rattle.cts_base.specs.declared.fraction.Fraction.{Fraction}
-use Rattle.cts_model.specs.Vocabulary.{Circuit, Constraint, PeriodShow, Tech, ArePathsOf, AreSmallConstraints, IsConstraintOf, EachLead, depth_of, lead_at, IsForbidding, IsLeastFraction, IsPeriodShow, IsLeastSchedule, IsSmallPeriod, arrival_of, AreSlacks}
+use Rattle.cts_engine.specs.Types.{Circuit, Constraint, PeriodShow, Tech}
+use Rattle.cts_model.specs.Vocabulary.{ArePathsOf, AreSmallConstraints, IsConstraintOf, EachLead, depth_of, lead_at, IsForbidding, IsLeastFraction, IsPeriodShow, IsLeastSchedule, IsSmallPeriod, arrival_of, AreSlacks}
 use Rattle.cts_model.specs.table.Tables.{IsWithin}
 use Rattle.critical_cycle.specs.CyclePlaces.{IsFromLowest}
 use Rattle.outcomes.specs.ShownCycles.{ShowsFromLowest}

@@ -3,7 +3,8 @@
 -- Kahng 1992; Chao and others 1992.
 use Rattle.std.specs.Prelude.{◌≡◌, ◌^◌, ℤ, List, length}
 use Rattle.cts_base.specs.declared.fraction.Fraction.{Fraction}
-use Rattle.cts_model.specs.Vocabulary.{Point, Problem, Schedule, Tech, Merge, IsGreedy, IsForbidding, IsLeastFraction, rotated, grid_of, on_grid, sinks_of, IsLeastSchedule}
+use Rattle.cts_engine.specs.Types.{Point, Problem, Schedule, Tech, Merge}
+use Rattle.cts_model.specs.Vocabulary.{IsGreedy, IsForbidding, IsLeastFraction, rotated, grid_of, on_grid, sinks_of, IsLeastSchedule}
 use Rattle.cts_model.specs.table.Tables.{IsWithin}
 use Rattle.critical_cycle.specs.CyclePlaces.{IsFromLowest}
 use Rattle.move_session.specs.Sessions.{SessionState, StandsFor}

@@ -1,7 +1,8 @@
 -- What a problem asks of a tree over its registers: the sinks whose offsets are the least schedule
 -- at the least period, or what forbids every period. Fishburn, "Clock Skew Optimization", 1990.
 use Rattle.std.specs.Prelude.{◌≡◌, List, length}
-use Rattle.cts_model.specs.Vocabulary.{Constraint, Problem, IsForbidding, sinks_of, AreTreeSinks}
+use Rattle.cts_engine.specs.Types.{Constraint, Problem}
+use Rattle.cts_model.specs.Vocabulary.{IsForbidding, sinks_of, AreTreeSinks}
 use Rattle.critical_cycle.specs.CyclePlaces.{IsFromLowest}
 use Rattle.cts_engine.specs.declared.sink_times.SinkOutcome.{SinkOutcome}
 use Rattle.cts_engine.specs.declared.sink_times.SinkOutcome.TheVariants.{Found, Never}

@@ -1,6 +1,7 @@
 -- The parts of a tree's report, as they come one after the other.
 use Rattle.std.specs.Prelude.{◌≡◌, ◌<◌, ◌*◌, ◌^◌, ℕ, ℤ, pos, ◌≤ℤ◌, ◌<ℤ◌, List, length, take, slice_set}
-use Rattle.cts_model.specs.Vocabulary.{Point, Merge, Tree, Wire, IsDrawn, Embedding, embedding_of, IsMultipleOf, IsPointBelow, distance, IsSmallWire, IsParent}
+use Rattle.cts_engine.specs.Types.{Point, Merge, Tree, Wire}
+use Rattle.cts_model.specs.Vocabulary.{IsDrawn, Embedding, embedding_of, IsMultipleOf, IsPointBelow, distance, IsSmallWire, IsParent}
 use Rattle.wire_detours.specs.WirePoints.{ArePoints}
 use Rattle.outcomes.specs.Syntheses.{EachEdge}
 

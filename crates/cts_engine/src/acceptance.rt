@@ -1,5 +1,6 @@
 ghost use Rattle.std.specs.Prelude.{◌≡◌, ◌≢◌, ◌≤◌, ◌↔◌, ◌⊎◌, Bool, IsTrue, List, [], length, Ok, Err, IfOk, IfErr};
-ghost use Rattle.cts_model.specs.Vocabulary.{Problem, has_host, HasNoHost, AreUsedKinds, GivesUsedKinds};
+ghost use Rattle.cts_engine.specs.Types.{Problem};
+ghost use Rattle.cts_model.specs.Vocabulary.{has_host, HasNoHost, AreUsedKinds, GivesUsedKinds};
 ghost use Rattle.delay_tables.specs.Refusals.{RefusesTable};
 ghost use Rattle.cts_engine.specs.Accepted.{IsHostedBy, TellsDelays, TellBoth, TellAll, IsCircuitRefusal, IsRefusal};
 

@@ -1,6 +1,7 @@
 ghost use Rattle.std.specs.Prelude.{◌≡◌, ◌≤◌, ◌<◌, ◌^◌, ◌↔◌, List, length, slice_set, unsigned_abs, IfOk, IfErr};
 ghost use Rattle.cts_base.specs.declared.fraction.Fraction.{Fraction};
-ghost use Rattle.cts_model.specs.Vocabulary.{Point, Problem, Schedule, Tech, Merge, HasNoPeriod, JoinsMoreThan, IsPointBelow, IsUvBelow, IsUvMultipleOf, rotated, grid_of, on_grid, steps_of_micro};
+ghost use Rattle.cts_engine.specs.Types.{Point, Problem, Schedule, Tech, Merge};
+ghost use Rattle.cts_model.specs.Vocabulary.{HasNoPeriod, JoinsMoreThan, IsPointBelow, IsUvBelow, IsUvMultipleOf, rotated, grid_of, on_grid, steps_of_micro};
 ghost use Rattle.path_delays.specs.JoinedPairs.{ShowsTooMany};
 ghost use Rattle.cts_engine.specs.SessionOutcomes.{ForbidsFromLowest, HasSmallGrid, IsGrid, IsNeverSession, IsSessionOutcome, StandsAt};
 

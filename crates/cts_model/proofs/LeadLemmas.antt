@@ -1,6 +1,7 @@
 -- Along leads, whose constraints are tight, no arrivals that meet the period are earlier.
 use Rattle.cts_model.proofs.Vocabulary.{◌≡◌, ℕ, zero, suc, ◌<◌, ◌≤◌, ◌+◌, ◌*◌, ℤ, pos, ◌+ℤ◌, ◌-ℤ◌, ◌*ℤ◌, ◌≤ℤ◌, List, length, sym, ap, subst, arith, nat_abs, ints, *ℤ-zero, Fraction, Circuit, Tech, IsConstraintOf, count_of, arrival_of, AreFromZero, AreLeastArrivals, Meets}
-use Rattle.cts_model.specs.Vocabulary.{Lead, Zero, Tight, ShowsEarliest, EachShowsEarliest, depth_of, lead_at}
+use Rattle.cts_model.specs.Types.{Lead, Zero, Tight}
+use Rattle.cts_model.specs.Vocabulary.{ShowsEarliest, EachShowsEarliest, depth_of, lead_at}
 use Rattle.cts_model.proofs.CircuitConstraints.{met_constraint}
 use Rattle.cts_model.proofs.PathRegisters.{tail_within}
 use Rattle.cts_model.proofs.ScaleLemmas.{size_same, scale-sub, scale-finer, scale-product}

@@ -1,7 +1,8 @@
 -- From the offsets of a schedule's sinks to its skews, and back.
 use Rattle.cts_model.proofs.Vocabulary.{◌≡◌, ◌⊎◌, ℕ, zero, suc, ◌<◌, ◌≤◌, ◌*◌, ℤ, pos, ◌+ℤ◌, ◌-ℤ◌, ◌*ℤ◌, neg_ℤ, ◌≤ℤ◌, ◌<ℤ◌, List, [], ◌∷◌, length, get_or, Some, inl, inr, refl, sym, ap, subst, ◌∙◌, arith, IfSome, nat_abs, *ℤ_comm, *ℤ-zero, cases_lt, ints, by_lt_z, slice_get_past, Fraction, Circuit, Point, Sink, Uv, Tech, Merge, least_delay, greatest_delay, AreWiresDown, Embedding, IsLeastWire, RealisesOffsets, total_wire, grid_of, scheduled_length, sink_of, sinks_of, IsSkewOf, RealisesSchedule, arrival_of, Meets}
 use Rattle.std.specs.Prelude.{slice_get}
-use Rattle.cts_model.specs.Vocabulary.{Schedule, IsLeastForSchedule, MeetsByWire}
+use Rattle.cts_model.specs.Types.{Schedule}
+use Rattle.cts_model.specs.Vocabulary.{IsLeastForSchedule, MeetsByWire}
 use Rattle.cts_model.specs.tree.WireDelays.{delay_period, delay_scale, wire_delay}
 use Rattle.cts_model.proofs.PathRegisters.{path_within}
 use Rattle.cts_model.proofs.ScaleLemmas.{size_same, scale_le, scale-add, scale-sub, scale-finer}

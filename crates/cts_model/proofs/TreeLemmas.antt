@@ -1,6 +1,6 @@
 -- What the shows of a tree say of every embedding that realises the offsets.
 use Rattle.cts_model.proofs.Vocabulary.{◌≡◌, ℕ, zero, suc, ◌<◌, ◌≤◌, ◌+◌, ◌-◌, ℤ, pos, ◌+ℤ◌, ◌-ℤ◌, ◌*ℤ◌, ◌≤ℤ◌, List, length, inl, inr, refl, sym, ap, subst, ◌∙◌, arith, IfSome, IsSomeAnd, slice_get, cases_lt, ints, slice_get_cases, IfSome_then, Sink, Uv, Merge, Embedding, IsEmbedding, AreWiresDown, RealisesOffsets, IsLeastWire, total_length, total_wire, rotated_distance, HasReaches, span, AreReaches, AreShown, ShowsMerge, ShowsSource, IsTopology, numbers_below, root_of, source_of}
-use Rattle.cts_model.specs.declared.tree.Show.{Show}
+use Rattle.cts_model.specs.Types.{Show}
 use Rattle.cts_model.specs.declared.tree.Show.TheVariants as shows
 use Rattle.cts_model.proofs.EmbeddingLemmas.{realised, realised_reaches, realised_of_sink, span_low, source_low, root_low}
 use Rattle.cts_model.proofs.ParentLemmas.{both_at, has_parent, made_parent, parent_above, parent_stands, total_by_merges}

@@ -20,7 +20,23 @@ pub use Rattle.std.specs.Prelude.{MatchBool, nat_abs, IfSome, unsigned_abs, IsSo
 pub use borrow.Author.Differences.{up, down}
 pub use mir.Syntax.{w128}
 pub use Rattle.cts_base.specs.declared.fraction.Fraction.{Fraction}
-pub use Rattle.cts_model.specs.Vocabulary.{Circuit, Constraint, Kind, And, Nand, Or, Nor, Not, Xor, Xnor, Buff, Input, Dff, Host, PeriodShow, Cycle, Floor, Point, Sink, Uv, Problem, Report, Signal, GateDelay, Tech, PairDelay, Merge, register_number, IsCircuit, gate_inputs, has_host, host_name, host_signal, is_named, registers_of, HasNoHost, IsWithHost, is_register, is_host, is_valid, is_gate, place_of, register_signal, IsPath, AreUsedKinds, distance, rotated_distance, rotated, scaled, IsBelow, IsPointBelow, IsMultipleOf, apart, HoldsTogether, next_place, GivesPeriod, IsOfCircuit, HasShape, IsDrawnEdge, IsReachShown, IsSkewed, IsOfSize, IsWithinBounds, number_at, origin, ShowsWhatItSays, IsShown, AtEach, IsShownLeast, IsShownTiming, cycle_of, IsShownTree, ShowsLeast, sinks_in, source_in, IsSatisfied, Satisfies, IsSetupConstraint, IsHoldConstraint, IsConstraintOf, count_of, ShowsPeriod, Leads, IsCycle, total_weight, total_count, ForbidsPeriods, least_delay, greatest_delay, no_delay, ComesBefore, IsPairDelay, IsCritical, IsForbidding, HasNoPeriod, IsFloorPeriod, IsLeastFraction, AreOrdered, ListsPairs, IsSmallPeriod, arrival_of, AreFromZero, AreLeastArrivals, IsLeastSchedule, MeetsSetup, MeetsHold, Meets, IsAdmitted, Embedding, IsEmbedding, RealisesOffsets, total_length, total_wire, embedding_of, IsLeastWire, AreWiresDown, grid_of, on_grid, scheduled_length, sink_of, sinks_of, steps_of_micro, HasReaches, AreNoLess, total_offset, RealisesSchedule, span, IsDoubleReach, AreReaches, ShowsMerge, ShowsSource, AreShown, IsTopology, IsParent, numbers_below, root_of, source_of, IsLive, IsMerge, Joins, sinks_below}
+pub use Rattle.cts_model.specs.declared.circuit.Circuit.{Circuit}
+pub use Rattle.cts_model.specs.declared.constraint.Constraint.{Constraint}
+pub use Rattle.cts_model.specs.declared.kind.Kind.{Kind}
+pub use Rattle.cts_model.specs.declared.kind.Kind.TheVariants.{And, Nand, Or, Nor, Not, Xor, Xnor, Buff, Input, Dff, Host}
+pub use Rattle.cts_model.specs.declared.period.PeriodShow.{PeriodShow}
+pub use Rattle.cts_model.specs.declared.period.PeriodShow.TheVariants.{Cycle, Floor}
+pub use Rattle.cts_model.specs.declared.place.Point.{Point}
+pub use Rattle.cts_model.specs.declared.place.Sink.{Sink}
+pub use Rattle.cts_model.specs.declared.place.Uv.{Uv}
+pub use Rattle.cts_model.specs.declared.problem.Problem.{Problem}
+pub use Rattle.cts_model.specs.declared.report.Report.{Report}
+pub use Rattle.cts_model.specs.declared.signal.Signal.{Signal}
+pub use Rattle.cts_model.specs.declared.tech.GateDelay.{GateDelay}
+pub use Rattle.cts_model.specs.declared.tech.Tech.{Tech}
+pub use Rattle.cts_model.specs.declared.timing.PairDelay.{PairDelay}
+pub use Rattle.cts_model.specs.declared.tree.Merge.{Merge}
+pub use Rattle.cts_model.specs.Vocabulary.{register_number, IsCircuit, gate_inputs, has_host, host_name, host_signal, is_named, registers_of, HasNoHost, IsWithHost, is_register, is_host, is_valid, is_gate, place_of, register_signal, IsPath, AreUsedKinds, distance, rotated_distance, rotated, scaled, IsBelow, IsPointBelow, IsMultipleOf, apart, HoldsTogether, next_place, GivesPeriod, IsOfCircuit, HasShape, IsDrawnEdge, IsReachShown, IsSkewed, IsOfSize, IsWithinBounds, number_at, origin, ShowsWhatItSays, IsShown, AtEach, IsShownLeast, IsShownTiming, cycle_of, IsShownTree, ShowsLeast, sinks_in, source_in, IsSatisfied, Satisfies, IsSetupConstraint, IsHoldConstraint, IsConstraintOf, count_of, ShowsPeriod, Leads, IsCycle, total_weight, total_count, ForbidsPeriods, least_delay, greatest_delay, no_delay, ComesBefore, IsPairDelay, IsCritical, IsForbidding, HasNoPeriod, IsFloorPeriod, IsLeastFraction, AreOrdered, ListsPairs, IsSmallPeriod, arrival_of, AreFromZero, AreLeastArrivals, IsLeastSchedule, MeetsSetup, MeetsHold, Meets, IsAdmitted, Embedding, IsEmbedding, RealisesOffsets, total_length, total_wire, embedding_of, IsLeastWire, AreWiresDown, grid_of, on_grid, scheduled_length, sink_of, sinks_of, steps_of_micro, HasReaches, AreNoLess, total_offset, RealisesSchedule, span, IsDoubleReach, AreReaches, ShowsMerge, ShowsSource, AreShown, IsTopology, IsParent, numbers_below, root_of, source_of, IsLive, IsMerge, Joins, sinks_below}
 pub use Rattle.cts_model.specs.netlist.Circuits.{IsHost}
 pub use Rattle.cts_model.specs.report.Judgements.{HoldsTogetherHere}
 pub use Rattle.cts_model.specs.report.SaidReports.{ShowsLeads, ShowsTiming, IsPeriodShown, ShowsTree}

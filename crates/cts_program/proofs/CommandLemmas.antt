@@ -1,6 +1,6 @@
 -- What a command comes to whose files are read, and a demonstration, which reads none.
 use Rattle.cts_program.proofs.Vocabulary.{ℕ, inl, inr, List, [], Option, Result, Ok, Err, IfOk, IfErr, refl, Bor, Problem, Demo, Answer, ending_status, Failure, IsUnshown, RefusesTold, IsAnswer, IsRefusal, request_of, DenotesText, Stops, refused, wants_memory, OrMemory, IsStep, reported}
-use Rattle.cts_model.specs.Vocabulary.{Report}
+use Rattle.cts_model.specs.declared.report.Report.{Report}
 use Rattle.command_line.specs.declared.table.Form.TheVariants as forms
 
 -- a report that isn't shown is refused though it is read

@@ -1,7 +1,7 @@
 -- A file tells one thing, or is refused with one status, and not both.
 use Rattle.cts_program.proofs.Vocabulary.{ℕ, ◌≡◌, ◌≢◌, ◌==◌, ◌⊎◌, inl, inr, List, [], ◌∷◌, ◌++◌, length, Some, None, refl, ap, ap₂, sym, ◌∙◌, subst, Circuit, Tech, PlaceFault, ReportFault, IsHostedBy, TellsDelays, HasFaultFor, Failure, TooLong, FileKind, status_of, bench_failure_of, tech_failure_of, place_failure_of, topology_failure_of, moves_failure_of, report_failure_of, DiffersFromFirst, Means, Refuses, IsAcceptedAs, IsRefusedAs, Told, nothing, bare, timed, placed, reported, joined, moving, TellsCircuit, TellsTech}
 use Rattle.cts_base.proofs.Told as told
-use Rattle.cts_model.specs.Vocabulary.{Signal}
+use Rattle.cts_model.specs.declared.signal.Signal.{Signal}
 use Rattle.cts_model.proofs.OneRecord.{one_use, same_tech}
 use Rattle.cts_model.specs.table.PlainTable.{IsPlainTable}
 use Rattle.bench_reader.specs.declared.fault.BenchFault.{BenchFault}

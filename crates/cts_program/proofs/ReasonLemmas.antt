@@ -1,6 +1,7 @@
 -- The register that a verdict on a report is about is one of the circuit.
 use Rattle.cts_program.proofs.Vocabulary.{◌≡◌, ◌<◌, ◌⊎◌, ℕ, length, inl, inr, refl, sym, ◌∙◌, subst, Problem, length-sinks_of, Reason, IsRegisterReason}
-use Rattle.cts_model.specs.Vocabulary.{Report, IsOfSize, sinks_in}
+use Rattle.cts_model.specs.declared.report.Report.{Report}
+use Rattle.cts_model.specs.Vocabulary.{IsOfSize, sinks_in}
 use Rattle.cert_check.specs.declared.verdict.Reason.TheVariants.{BelowFloor, CycleBroken, NotOfCircuit, CycleValue, ScheduleMisses, TreeShape, TooShort, WireSum, SkewDiffers, Unshown, Total, SlackDiffers, PathBroken, NotLeast}
 use Rattle.cert_check.specs.declared.verdict.Verdict.TheVariants.{Not}
 use Rattle.cert_check.specs.Judged.{Judged, JudgedOnce}

@@ -21,7 +21,10 @@ pub use Rattle.cts_engine.proofs.ProblemLemmas.{near_coordinate, problem_of}
 pub use Rattle.cts_engine.specs.Accepted.{IsHostedBy, TellsDelays, HasFaultFor}
 pub use Rattle.cts_engine.specs.SessionOutcomes.{IsSessionOf, StandsAt, IsGrid}
 pub use Rattle.cts_model.proofs.SkewLemmas.{length-sinks_of}
-pub use Rattle.cts_model.specs.Vocabulary.{Circuit, Problem, Tech, line_of, text_of}
+pub use Rattle.cts_model.specs.declared.circuit.Circuit.{Circuit}
+pub use Rattle.cts_model.specs.declared.problem.Problem.{Problem}
+pub use Rattle.cts_model.specs.declared.tech.Tech.{Tech}
+pub use Rattle.cts_model.specs.Vocabulary.{line_of, text_of}
 pub use Rattle.failure_lines.specs.Failures.{status_of}
 pub use Rattle.failure_lines.specs.Refusals.{report_failure_of, reason_failure_of, bench_failure_of, tech_failure_of, place_failure_of, topology_failure_of, moves_failure_of, words_failure_of}
 pub use Rattle.failure_lines.specs.declared.failure.Failure.{Failure}

@@ -1,7 +1,10 @@
 -- The lines of wire of a session, one for the places as they are and one after each move.
 use Rattle.cts_program.proofs.Vocabulary.{◌≡◌, ℕ, ℤ, List, [], ◌∷◌, ◌++◌, length, map, refl, ap, sym, subst, ◌∙◌, All, map_push, Problem, line_of, text_of, length-sinks_of, Move, IsSessionOf, StandsAt, near_coordinate, wire_line, AreWires, IsTreeWire, IsWireAt, IsWiresText, moved_places, AppendsWire, IsNearMove, AcceptsMoves}
 use Rattle.cts_base.specs.declared.fraction.Fraction.{Fraction}
-use Rattle.cts_model.specs.Vocabulary.{Point, Schedule, Merge, IsGreedy, sinks_of}
+use Rattle.cts_model.specs.declared.place.Point.{Point}
+use Rattle.cts_model.specs.declared.schedule.Schedule.{Schedule}
+use Rattle.cts_model.specs.declared.tree.Merge.{Merge}
+use Rattle.cts_model.specs.Vocabulary.{IsGreedy, sinks_of}
 use Rattle.move_session.specs.Sessions.{SessionState}
 use Rattle.move_session.proofs.ToldMoves.{IsToldMove, each_told}
 use Rattle.report_text.proofs.LineLemmas.{one_line, text_of-push}

@@ -1,6 +1,7 @@
 -- What a command answers where its files have these contents: a text, or the first refusal.
 use Rattle.std.specs.Prelude.{◌≡◌, ◌≤◌, ◌⊎◌, ◌==◌, ◌||◌, ℕ, Bool, List, [], ◌∷◌, length, map, take, get_or}
-use Rattle.cts_model.specs.Vocabulary.{Circuit, HasNoPeriod, JoinsMoreThan}
+use Rattle.cts_model.specs.declared.circuit.Circuit.{Circuit}
+use Rattle.cts_model.specs.Vocabulary.{HasNoPeriod, JoinsMoreThan}
 use Rattle.corners.specs.CommonPeriods.{HasNoCommonPeriod}
 use Rattle.cert_check.specs.declared.verdict.Reason.{Reason}
 use Rattle.cert_check.specs.declared.verdict.Verdict.TheVariants.{Not}

@@ -1,7 +1,10 @@
 -- What a file tells after those before it, or why it is refused, and so for the files of a command:
 -- each is judged as soon as it is read.
 use Rattle.std.specs.Prelude.{◌≡◌, ◌≢◌, ◌==◌, ◌⊎◌, ℕ, List, [], ◌∷◌, ◌++◌, length, Some}
-use Rattle.cts_model.specs.Vocabulary.{Circuit, Problem, Tech, Spells}
+use Rattle.cts_model.specs.declared.circuit.Circuit.{Circuit}
+use Rattle.cts_model.specs.declared.problem.Problem.{Problem}
+use Rattle.cts_model.specs.declared.tech.Tech.{Tech}
+use Rattle.cts_model.specs.Vocabulary.{Spells}
 use Rattle.cts_model.specs.declared.report.Report as reports
 use Rattle.cts_model.specs.declared.tree.Topology as trees
 use Rattle.bench_reader.specs.declared.fault.BenchFault.{BenchFault}

@@ -1,7 +1,9 @@
 -- What one step of a command finds: a file that was read, an answer, or why it stops there.
 use Rattle.std.specs.Prelude.{◌≡◌, ◌≢◌, ◌↔◌, ◌⊎◌, ℕ, IsTrue, List, [], Option, IfSome, Result, IfOk, IfErr, IsErrOf}
 use Rattle.cts_io.specs.Device.{Rose}
-use Rattle.cts_model.specs.Vocabulary.{Circuit, Tech, has_host, HasNoHost, IsLoop, JoinsMoreThan, GivesUsedKinds}
+use Rattle.cts_model.specs.declared.circuit.Circuit.{Circuit}
+use Rattle.cts_model.specs.declared.tech.Tech.{Tech}
+use Rattle.cts_model.specs.Vocabulary.{has_host, HasNoHost, IsLoop, JoinsMoreThan, GivesUsedKinds}
 use Rattle.answer_texts.specs.declared.answer.Answer.{Answer}
 use Rattle.answer_texts.specs.Endings.{ending_status}
 use Rattle.failure_lines.specs.declared.failure.Failure.{Failure}

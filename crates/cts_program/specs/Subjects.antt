@@ -1,6 +1,7 @@
 -- What a reason against a report is about.
 use Rattle.std.specs.Prelude.{◌≡◌, ℕ, List, []}
-use Rattle.cts_model.specs.Vocabulary.{Circuit, register_name}
+use Rattle.cts_model.specs.declared.circuit.Circuit.{Circuit}
+use Rattle.cts_model.specs.Vocabulary.{register_name}
 use Rattle.cert_check.specs.declared.verdict.Reason.{Reason}
 use Rattle.cert_check.specs.declared.verdict.Reason.TheVariants as reason
 

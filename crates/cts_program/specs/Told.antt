@@ -1,6 +1,10 @@
 -- What the files of a command tell, one after the other.
 use Rattle.std.specs.Prelude.{◌≡◌, List, [], ◌∷◌}
-use Rattle.cts_model.specs.Vocabulary.{Circuit, Problem, Report, Tech, Topology}
+use Rattle.cts_model.specs.declared.circuit.Circuit.{Circuit}
+use Rattle.cts_model.specs.declared.problem.Problem.{Problem}
+use Rattle.cts_model.specs.declared.report.Report.{Report}
+use Rattle.cts_model.specs.declared.tech.Tech.{Tech}
+use Rattle.cts_model.specs.declared.tree.Topology.{Topology}
 use Rattle.cts_model.specs.table.PlainTable.{IsPlainTable}
 use Rattle.cts_engine.specs.Accepted.{IsHostedBy}
 use Rattle.move_session.specs.declared.moves.Move.{Move}

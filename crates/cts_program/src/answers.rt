@@ -2,7 +2,8 @@
 
 ghost use Rattle.std.specs.Prelude.{◌≡◌, ◌≤◌, ℕ, List, true, length, IfOk, IfErr};
 ghost use Rattle.cts_base.specs.Fractions.{fraction_text};
-ghost use Rattle.cts_model.specs.Vocabulary.{Topology, IsLoop, text_of, JoinsMoreThan, IsMarginPeriod, IsTopology};
+ghost use Rattle.cts_model.specs.declared.tree.Topology.{Topology};
+ghost use Rattle.cts_model.specs.Vocabulary.{IsLoop, text_of, JoinsMoreThan, IsMarginPeriod, IsTopology};
 ghost use Rattle.command_line.specs.Commands.{is_period};
 ghost use Rattle.failure_lines.specs.declared.failure.Failure.{Failure};
 ghost use Rattle.outcomes.specs.SynthesisOutcomes.{IsOutcomeWith};

@@ -1,7 +1,8 @@
 //! The command `moves`: how long the clock tree is, and how long after each move of a register.
 
 ghost use Rattle.std.specs.Prelude.{◌<◌, ◌^◌, All, IfOk, IfErr, OnOk, length};
-ghost use Rattle.cts_model.specs.Vocabulary.{Problem, JoinsMoreThan};
+ghost use Rattle.cts_model.specs.declared.problem.Problem.{Problem};
+ghost use Rattle.cts_model.specs.Vocabulary.{JoinsMoreThan};
 ghost use Rattle.cts_model.specs.table.Tables.{IsWithin};
 ghost use Rattle.cts_engine.specs.SessionOutcomes.{IsGrid, IsSessionOf};
 ghost use Rattle.answer_texts.specs.Endings.{ending_status};

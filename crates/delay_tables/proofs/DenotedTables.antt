@@ -1,7 +1,7 @@
 -- The delay table that a document denotes.
 use Rattle.delay_tables.proofs.Vocabulary.{◌≡◌, ℕ, ℤ, pos, ◌*ℤ◌, FitsSigned, of_z, to_z, List, [], ◌∷◌, map, codes, None, ◌∙◌, to_z-of_z, option_or, Members, IsLowest, IsWithin, IsTable, sections, gate_kinds, number_at, numerator_of, denominator_of, gate_delay_at, first_flaw, section_flaw, register_flaw, gate_flaw}
 use mir.Syntax.{w128}
-use Rattle.cts_model.specs.Vocabulary.{GateDelay}
+use Rattle.cts_model.specs.declared.tech.GateDelay.{GateDelay}
 use Rattle.delay_tables.proofs.FlawlessTables.{is_top_within, registers_ordered, gates_within, orders}
 
 -- the numbers of a table are those that a document denotes

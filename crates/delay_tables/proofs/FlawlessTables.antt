@@ -1,7 +1,8 @@
 -- What a document in which nothing is wrong gives is within the ranges of a delay table.
 use Rattle.delay_tables.proofs.Vocabulary.{◌≡◌, ℕ, ℤ, pos, negsuc, ◌≤ℤ◌, Bool, true, false, not, cond, ◌&&◌, ◌||◌, zero, suc, List, [], ◌∷◌, map, codes, Option, Some, None, IfSome, is_some, is_none, IsTrue, get_or, unwrap_or, int_lt, refl, sym, ap, ◌∙◌, arith, leb-true, false≢true, ints, All, AllByRecursion, option_or, option_and_then, option_map_or, Data, Members, as_str, as_integer, get_member, And, Nand, Or, Nor, Not, Xor, Xnor, Buff, Input, Dff, Host, Tech, GivesKinds, IsWithin, IsGateDelay, Fraction, UpTo, Need, Always, InTable, Optional, Key, Section, key, sections, top_sections, gate_section, gate_kinds, gate_way, word_of, dotted, value_at, table_at, text_at, number_at, is_fraction, is_small_fraction, is_up_to, has_form, is_in_range, gate_delay_at, TableFlaw, WrongType, first_flaw, value_flaw, absence_flaw, key_flaw, way_flaw, section_flaw, register_flaw, gate_flaw, is_disordered, order_flaw, kind_flaw, name_flaw, table_flaw}
 use Rattle.std.proofs.lemmas.List.Elements.{All-from_recursion}
-use Rattle.cts_model.specs.Vocabulary.{Kind, is_gate, place_of, no_delay}
+use Rattle.cts_model.specs.declared.kind.Kind.{Kind}
+use Rattle.cts_model.specs.Vocabulary.{is_gate, place_of, no_delay}
 use Rattle.delay_tables.proofs.Judgements.{flaws-sections}
 use Rattle.cts_model.specs.table.TableFlaws.{Missing, OutOfRange, LeastAboveGreatest, MissingKind}
 

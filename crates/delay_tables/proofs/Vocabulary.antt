@@ -10,7 +10,8 @@ pub use Rattle.std.specs.Option.{option_or, option_and_then, option_map_or}
 pub use Rattle.std.specs.Str.Parse.{digits_value}
 pub use Rattle.cts_base.proofs.OneFraction.{some_factor, other_sign, one_fraction}
 pub use Rattle.cts_base.specs.Fractions.{IsLowest}
-pub use Rattle.cts_model.specs.Vocabulary.{And, Nand, Or, Nor, Not, Xor, Xnor, Buff, Input, Dff, Host, Tech}
+pub use Rattle.cts_model.specs.declared.kind.Kind.TheVariants.{And, Nand, Or, Nor, Not, Xor, Xnor, Buff, Input, Dff, Host}
+pub use Rattle.cts_model.specs.declared.tech.Tech.{Tech}
 pub use Rattle.cts_model.specs.table.AcceptedTables.{GivesKinds, IsDocument, IsNotToml, HasFlaw, IsDelayTable, AcceptsTable, DenotesTable}
 unfoldable pub use Rattle.cts_model.specs.table.TableFlaws.{table_flaw}
 pub use Rattle.cts_model.specs.table.TableFlaws.{first_flaw, section_flaw, register_flaw, gate_flaw, TableFlaw, WrongType, value_flaw, absence_flaw, key_flaw, way_flaw, is_disordered, order_flaw, kind_flaw, name_flaw, is_no_table, names_in, unknown_of, unknown_at, unknown_in_section, unknown_names, lesser_name, least_name}

@@ -9,7 +9,8 @@ pub use Rattle.std.proofs.lemmas.List.Sums.{fails_before_first, sum_by-cons, sum
 pub use Rattle.std.proofs.lemmas.Option.{get_or_from_slice_get, slice_get_past, slice_get_within, slice_get-get_or, slice_get_read}
 pub use Rattle.std.specs.List.{position_or_len, cons_option, slice_get, sum_by, list_any}
 pub use Rattle.std.specs.Prelude.{slice_index, IsSomeAnd, IsSome, find}
-pub use Rattle.cts_model.specs.Vocabulary.{Signal, IsGate, Reads, Follows, IsLoop, IsNamedLoop}
+pub use Rattle.cts_model.specs.declared.signal.Signal.{Signal}
+pub use Rattle.cts_model.specs.Vocabulary.{IsGate, Reads, Follows, IsLoop, IsNamedLoop}
 pub use Rattle.gate_order.specs.GateReads.{is_gate_at, reads_among, reads_by, IsRead, AreReads}
 pub use Rattle.gate_order.specs.Grouped.{values_at, pairs_at, pairs_before, AreStarts, AreFilled, IsParted}
 pub use Rattle.gate_order.specs.Orders.{IsTopologicalOrder, AllWait}

@@ -2,7 +2,8 @@
 use Rattle.std.specs.Prelude.{◌<◌, ◌≤◌, ℕ, Bool, false, List, [], length, take, All, Contains, Option, Some, None, if◌then◌else◌, slice_get}
 use Rattle.std.specs.List.{filter_map, sum_by}
 use Rattle.std.specs.Option.{option_map_or}
-use Rattle.cts_model.specs.Vocabulary.{Signal, is_gate, gate_inputs, IsGate, Reads}
+use Rattle.cts_model.specs.declared.signal.Signal.{Signal}
+use Rattle.cts_model.specs.Vocabulary.{is_gate, gate_inputs, IsGate, Reads}
 
 -- whether the signal of this number is a gate
 abbrev pub is_gate_at : List Signal → ℕ → Bool

@@ -1,6 +1,7 @@
 -- Why the gates of a circuit have no order.
 use Rattle.std.specs.Prelude.{List}
-use Rattle.cts_model.specs.Vocabulary.{Signal, IsNamedLoop}
+use Rattle.cts_model.specs.declared.signal.Signal.{Signal}
+use Rattle.cts_model.specs.Vocabulary.{IsNamedLoop}
 use Rattle.gate_order.specs.declared.fault.LevelFault.{LevelFault}
 use Rattle.gate_order.specs.declared.fault.LevelFault.TheVariants.{Loop, NoMemory}
 

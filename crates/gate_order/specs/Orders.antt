@@ -1,6 +1,7 @@
 -- Orders of a netlist's gates in which each comes after the gates that it reads.
 use Rattle.std.specs.Prelude.{◌≡◌, ◌≢◌, ◌<◌, ℕ, List, All, AllPairs, Contains, Some, slice_get, slice_index, length, take}
-use Rattle.cts_model.specs.Vocabulary.{Signal, IsGate, Reads}
+use Rattle.cts_model.specs.declared.signal.Signal.{Signal}
+use Rattle.cts_model.specs.Vocabulary.{IsGate, Reads}
 
 -- each gate once, each after the gates that it reads
 pub record IsTopologicalOrder (signals : List Signal) (order : List ℕ) : Type 0 where

@@ -1,6 +1,7 @@
 -- Gates in the order in which they stop waiting for others.
 use Rattle.std.specs.Prelude.{◌≡◌, ◌≢◌, ◌<◌, ◌≤◌, ◌+◌, ◌-◌, ◌==◌, nat_lt, ℕ, List, [], ◌∷◌, ◌++◌, length, All, AllPairs, Contains, if◌then◌else◌, slice_index, slice_set, count_by}
-use Rattle.cts_model.specs.Vocabulary.{Signal, IsGate}
+use Rattle.cts_model.specs.declared.signal.Signal.{Signal}
+use Rattle.cts_model.specs.Vocabulary.{IsGate}
 use Rattle.gate_order.specs.Orders.{IsTopologicalOrder, AllWait}
 
 -- how many of these numbers aren't 0

@@ -8,7 +8,9 @@ pub use Rattle.std.proofs.lemmas.List.Elements.{Contains-append_left, Contains-a
 pub use Rattle.std.proofs.lemmas.Option.{slice_get-get_or, slice_get_within, get_or_from_slice_get}
 pub use Rattle.std.specs.Int.{int_max, w128}
 pub use Rattle.cts_model.proofs.TopologyLemmas.{found_among, some_and, first_made, merge_at, merge_here, second_made, number_below, numbers_below-merge, numbers_below-sink, sinks_below-among}
-pub use Rattle.cts_model.specs.Vocabulary.{Sink, Merge, ShowsMerge, IsTopology, Joins, numbers_below, sinks_below}
+pub use Rattle.cts_model.specs.declared.place.Sink.{Sink}
+pub use Rattle.cts_model.specs.declared.tree.Merge.{Merge}
+pub use Rattle.cts_model.specs.Vocabulary.{ShowsMerge, IsTopology, Joins, numbers_below, sinks_below}
 pub use Rattle.tilted_rect.proofs.CodeNumbers.{kept, below_fits, difference_read, sum_read}
 pub use Rattle.tilted_rect.proofs.RegionLemmas.{region_extremes, sides_from_region, region_from_sides}
 pub use Rattle.tilted_rect.proofs.SpanLemmas.{sinks_of_u_show, sinks_of_v_show, span_is_symmetric, spread_is_reach}

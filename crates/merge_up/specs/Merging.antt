@@ -1,7 +1,12 @@
 -- The reaches, regions and shows of a topology's nodes, as a room holds them: Boese and Kahng 1992;
 -- Chao and others 1992.
 use Rattle.std.specs.Prelude.{◌≡◌, ℕ, ◌+◌, ◌-◌, ◌^◌, ◌<◌, Bool, min, false, true, All, IsFalse, List, IsSomeAnd, Some, length, replicate, slice_get, slice_set, ℤ, ◌+ℤ◌}
-use Rattle.cts_model.specs.Vocabulary.{Sink, Merge, Show, IsDoubleReach, ShowsMerge, Joins, numbers_below, sinks_below, source_of, Point, Uv, rotated}
+use Rattle.cts_model.specs.declared.place.Sink.{Sink}
+use Rattle.cts_model.specs.declared.tree.Merge.{Merge}
+use Rattle.cts_model.specs.declared.tree.Show.{Show}
+use Rattle.cts_model.specs.declared.place.Point.{Point}
+use Rattle.cts_model.specs.declared.place.Uv.{Uv}
+use Rattle.cts_model.specs.Vocabulary.{IsDoubleReach, ShowsMerge, Joins, numbers_below, sinks_below, source_of, rotated}
 use Rattle.tilted_rect.specs.Extremes.{IsRegion}
 use Rattle.tilted_rect.specs.Rects.{HasSides}
 use Rattle.tilted_rect.specs.declared.rect.Rect.{Rect}

@@ -2,7 +2,8 @@
 -- sinks to the four sides say all of a set of sinks that its reach and its region depend on: Boese
 -- and Kahng 1992; Chao and others 1992.
 use Rattle.std.specs.Prelude.{◌≡◌, ℕ, min, max, List, Contains, IsSomeAnd, slice_get, filter_map, ℤ, ◌+ℤ◌, ◌-ℤ◌, neg_ℤ}
-use Rattle.cts_model.specs.Vocabulary.{Sink, Show}
+use Rattle.cts_model.specs.declared.place.Sink.{Sink}
+use Rattle.cts_model.specs.declared.tree.Show.{Show}
 use Rattle.cts_model.specs.declared.tree.Show.TheVariants as shows
 use Rattle.tilted_rect.specs.Extremes.{Extremes, IsGreatest, u_above, v_above}
 use Rattle.tilted_rect.specs.declared.rect.Rect.{Rect}

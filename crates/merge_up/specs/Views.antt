@@ -1,6 +1,6 @@
 -- The fields of a room as its state.
 use Rattle.std.specs.Prelude.{◌≡◌, ℕ, ◌+◌, ◌-◌, ◌*◌, ◌^◌, ◌<◌, ◌≤◌, length, take}
-use Rattle.cts_model.specs.Vocabulary.{Tree}
+use Rattle.cts_model.specs.declared.tree.Tree.{Tree}
 use Rattle.merge_up.specs.Works.{WorkState}
 use Rattle.merge_up.specs.declared.work.Work.TheInside.{Inside}
 

@@ -1,6 +1,7 @@
 -- What a room in which trees are made holds of the tree of its last merge.
 use Rattle.std.specs.Prelude.{◌≡◌, ℕ, ◌+◌, ◌-◌, ◌*◌, ◌^◌, ◌<◌, ◌≤◌, Bool, List, All, length, IsTrue}
-use Rattle.cts_model.specs.Vocabulary.{Show, Tree}
+use Rattle.cts_model.specs.declared.tree.Show.{Show}
+use Rattle.cts_model.specs.declared.tree.Tree.{Tree}
 use Rattle.tilted_rect.specs.declared.rect.Rect.{Rect}
 use Rattle.merge_up.specs.declared.ends.Ends.{Ends}
 

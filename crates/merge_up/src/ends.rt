@@ -1,5 +1,5 @@
 ghost use Rattle.std.specs.Prelude.{◌≡◌, ℕ, ℤ, ◌+ℤ◌, ◌-ℤ◌, neg_ℤ, ◌∷◌, [], ◌++◌, List, Some, slice_get};
-ghost use Rattle.cts_model.specs.Vocabulary.{Sink};
+ghost use Rattle.cts_model.specs.declared.place.Sink.{Sink};
 
 use crate::end::End;
 use cts_model::{Show, Sink, half};

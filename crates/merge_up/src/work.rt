@@ -42,7 +42,10 @@ impl Model for Work {
 }
 
 impl Work {
-    ghost use Rattle.cts_model.specs.Vocabulary.{Point, Sink, Merge, IsUvBelow, IsUvMultipleOf, AreTreeSinks, IsTreeSink, IsTopology, numbers_below};
+    ghost use Rattle.cts_model.specs.declared.place.Point.{Point};
+    ghost use Rattle.cts_model.specs.declared.place.Sink.{Sink};
+    ghost use Rattle.cts_model.specs.declared.tree.Merge.{Merge};
+    ghost use Rattle.cts_model.specs.Vocabulary.{IsUvBelow, IsUvMultipleOf, AreTreeSinks, IsTreeSink, IsTopology, numbers_below};
     ghost use Rattle.tilted_rect.specs.Rects.{Holds};
     ghost use Rattle.merge_up.specs.Merging.{HoldsJoined, HoldsMerge, HoldsSinks, KeepsEnds, KeepsJoined, IsFresh, IsRenewed, IsSinkSet, IsNodeSettled, IsSourcePlaced, IsUnsettled};
     ghost use Rattle.merge_up.specs.Sides.{AreEnds, IsEnd, far_to};

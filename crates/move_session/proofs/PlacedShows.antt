@@ -1,6 +1,6 @@
 -- A placed tree realises the offsets with the least wire.
 use Rattle.move_session.proofs.Vocabulary.{List, length, slice_get, Sink, Merge, Show, Tree, IsLeastWire, RealisesOffsets, embedding_of, total_wire, AreShown, IsTopology, some_and}
-use Rattle.cts_model.specs.Vocabulary.{Uv}
+use Rattle.cts_model.specs.declared.place.Uv.{Uv}
 use Rattle.cts_model.proofs.TreeLemmas.{reaches_realise, shown_reaches_are_least}
 use Rattle.place_down.specs.Trees.{IsPlacedTree, reach_in}
 

@@ -3,7 +3,8 @@ use Rattle.move_session.proofs.Vocabulary.{◌≡◌, ◌<◌, ℕ, List, [], �
 use Rattle.cts_base.specs.Decimals.{micros_of}
 use Rattle.cts_base.specs.LineFormats.{first_fault, unless_faulty}
 use Rattle.cts_base.specs.declared.number.NumberFault.{NumberFault}
-use Rattle.cts_model.specs.Vocabulary.{Circuit, register_name, point_from}
+use Rattle.cts_model.specs.declared.circuit.Circuit.{Circuit}
+use Rattle.cts_model.specs.Vocabulary.{register_name, point_from}
 use Rattle.name_set.proofs.NameNumbers.{found_below}
 
 -- the move is of a register, to a place whose coordinates words name

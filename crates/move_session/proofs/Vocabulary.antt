@@ -5,7 +5,11 @@ pub use Rattle.std.proofs.lemmas.List.Elements.{Contains-append_right, All-set, 
 pub use Rattle.std.specs.List.{Contains, filter_map, cons_option, count_by, range_with_len}
 pub use Rattle.std.specs.Result.{result_err, result_ok}
 pub use Rattle.cts_model.proofs.TopologyLemmas.{some_and, merge_at, merge_here, numbers_below-sink}
-pub use Rattle.cts_model.specs.Vocabulary.{Sink, Merge, Show, Tree, entries_in, has_words, words_in, entries_of, IsLeastWire, RealisesOffsets, embedding_of, total_wire, total_length, ShowsMerge, AreShown, AreTreeSinks, IsTreeSink, numbers_below, IsTopology, IsLive, IsMerge, Joins, source_of}
+pub use Rattle.cts_model.specs.declared.place.Sink.{Sink}
+pub use Rattle.cts_model.specs.declared.tree.Merge.{Merge}
+pub use Rattle.cts_model.specs.declared.tree.Show.{Show}
+pub use Rattle.cts_model.specs.declared.tree.Tree.{Tree}
+pub use Rattle.cts_model.specs.Vocabulary.{entries_in, has_words, words_in, entries_of, IsLeastWire, RealisesOffsets, embedding_of, total_wire, total_length, ShowsMerge, AreShown, AreTreeSinks, IsTreeSink, numbers_below, IsTopology, IsLive, IsMerge, Joins, source_of}
 pub use Rattle.merge_up.proofs.WorkLemmas.{merges_set, set_held, set_kept, sinks_set, merges_renewed, sinks_renewed, joined_held}
 pub use Rattle.merge_up.specs.Merging.{HoldsMerge, IsMerged, IsSinkSet, HoldsSinks, IsRenewed}
 pub use Rattle.merge_up.specs.Works.{WorkState, IsFit}

@@ -2,7 +2,9 @@
 -- changes. Boese and Kahng 1992; Chao and others 1992.
 use Rattle.std.specs.Prelude.{◌≡◌, ◌⊎◌, ◌+◌, ◌<◌, ℕ, Bool, List, Contains, IsSomeAnd, length, nat_eq, slice_get}
 use Rattle.std.specs.List.{count_by, list_any, range_with_len}
-use Rattle.cts_model.specs.Vocabulary.{Sink, Merge, Joins, numbers_below}
+use Rattle.cts_model.specs.declared.place.Sink.{Sink}
+use Rattle.cts_model.specs.declared.tree.Merge.{Merge}
+use Rattle.cts_model.specs.Vocabulary.{Joins, numbers_below}
 use Rattle.merge_up.specs.Merging.{HoldsMerge, HoldsSinks, IsRenewed}
 use Rattle.merge_up.specs.Works.{WorkState}
 

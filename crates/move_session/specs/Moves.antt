@@ -6,7 +6,9 @@ use Rattle.std.specs.Option.{option_or}
 use Rattle.std.specs.Result.{result_ok, result_err}
 use Rattle.cts_base.specs.LineFormats.{first_fault, unless_faulty}
 use Rattle.cts_base.specs.declared.number.NumberFault.{NumberFault}
-use Rattle.cts_model.specs.Vocabulary.{Circuit, Point, number_of, point_of, entries_in, entries_of, words_in}
+use Rattle.cts_model.specs.declared.circuit.Circuit.{Circuit}
+use Rattle.cts_model.specs.declared.place.Point.{Point}
+use Rattle.cts_model.specs.Vocabulary.{number_of, point_of, entries_in, entries_of, words_in}
 use Rattle.name_set.specs.RegisterNames.{register_names}
 use Rattle.move_session.specs.declared.fault.MovesFault.{MovesFault}
 use Rattle.move_session.specs.declared.fault.MovesFault.TheVariants.{BadLine, UnknownRegister, BadNumber, TooMany}

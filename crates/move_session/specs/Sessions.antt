@@ -1,7 +1,11 @@
 -- What a session stands for: the tree over its sinks as they are now, with its topology and its
 -- source. Boese and Kahng 1992; Chao and others 1992.
 use Rattle.std.specs.Prelude.{◌≡◌, ℕ, pos, List, slice_index_or, slice_set}
-use Rattle.cts_model.specs.Vocabulary.{Sink, Uv, Merge, Show, Tree}
+use Rattle.cts_model.specs.declared.place.Sink.{Sink}
+use Rattle.cts_model.specs.declared.place.Uv.{Uv}
+use Rattle.cts_model.specs.declared.tree.Merge.{Merge}
+use Rattle.cts_model.specs.declared.tree.Show.{Show}
+use Rattle.cts_model.specs.declared.tree.Tree.{Tree}
 use Rattle.place_down.specs.Trees.{HasTreeNumbers, IsPlacedTree}
 
 -- the sinks as they are now, the merges and the source, the tree with what shows its reaches, and

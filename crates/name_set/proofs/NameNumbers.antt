@@ -12,7 +12,8 @@ use Rattle.std.proofs.lemmas.List.Sums.{fails_before_first, prefix_len-le-length
 use Rattle.std.proofs.lemmas.Slice.Eq.{bytes_eq-Decides}
 use Rattle.cts_base.proofs.ListTests.{list_any-map}
 use Rattle.indexmap.specs.IndexSet.{insert_key}
-use Rattle.cts_model.specs.Vocabulary.{Circuit, register_name}
+use Rattle.cts_model.specs.declared.circuit.Circuit.{Circuit}
+use Rattle.cts_model.specs.Vocabulary.{register_name}
 use Rattle.name_set.proofs.OneName.{few_registers, one_register}
 
 -- ---- keys

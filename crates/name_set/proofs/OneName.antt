@@ -3,7 +3,9 @@ use Rattle.std.proofs.Common.{◌≡◌, ◌<◌, ◌≤◌, ◌+◌, ℕ, suc, 
 use Rattle.std.specs.List.{filter_map, enumerate_from, cons_option}
 use Rattle.std.proofs.lemmas.Bool.{cases_lt}
 use Rattle.std.proofs.lemmas.Option.{slice_get_cases, slice_get-get_or, slice_get_within}
-use Rattle.cts_model.specs.Vocabulary.{Signal, Circuit, has_host, register_number, is_register, register_name, signal_name}
+use Rattle.cts_model.specs.declared.signal.Signal.{Signal}
+use Rattle.cts_model.specs.declared.circuit.Circuit.{Circuit}
+use Rattle.cts_model.specs.Vocabulary.{has_host, register_number, is_register, register_name, signal_name}
 use Rattle.cts_model.proofs.CircuitLemmas.{registered}
 
 -- the numbers of the registers among signals that are numbered from the first on

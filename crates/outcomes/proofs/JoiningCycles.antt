@@ -3,7 +3,8 @@ use Rattle.std.proofs.Common.{ℕ, ℤ, Bool, true, false, List, [], ◌∷◌}
 use Rattle.std.specs.Prelude.{MatchBool}
 use Rattle.std.specs.List.{All}
 use Rattle.std.proofs.lemmas.List.Elements.{All-head}
-use Rattle.cts_model.specs.Vocabulary.{Circuit, Constraint, Tech, IsConstraintOf, IsHoldConstraint, IsSetupConstraint, IsCycle}
+use Rattle.outcomes.specs.Types.{Circuit, Constraint, Tech}
+use Rattle.cts_model.specs.Vocabulary.{IsConstraintOf, IsHoldConstraint, IsSetupConstraint, IsCycle}
 use Rattle.outcomes.specs.CircuitMargins.{HasNoPath}
 
 -- a constraint of a circuit has one

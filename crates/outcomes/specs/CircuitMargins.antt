@@ -3,7 +3,8 @@
 -- and the arrivals are in ticks over a scale.
 use Rattle.std.specs.Prelude.{ℕ, ℤ, pos, ◌+ℤ◌, List, All, length}
 use Rattle.cts_base.specs.declared.fraction.Fraction.{Fraction}
-use Rattle.cts_model.specs.Vocabulary.{Circuit, Constraint, Schedule, Tech, IsConstraintOf, least_delay, greatest_delay, IsPath, MeetsSetup, MeetsHold}
+use Rattle.outcomes.specs.Types.{Circuit, Constraint, Schedule, Tech}
+use Rattle.cts_model.specs.Vocabulary.{IsConstraintOf, least_delay, greatest_delay, IsPath, MeetsSetup, MeetsHold}
 use Rattle.critical_cycle.specs.CyclePlaces.{IsFromLowest}
 use Rattle.safety_margin.specs.Margins.{ShowsMargin, SparesNoMore}
 use Rattle.safety_margin.specs.SparingSchedules.{IsSmallSparing, IsSparingSchedule}

@@ -4,3 +4,4 @@ pub mod ScheduleOutcomes
 pub mod CircuitMargins
 pub mod Syntheses
 pub mod SynthesisOutcomes
+pub mod Types

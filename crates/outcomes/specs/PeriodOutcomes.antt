@@ -1,7 +1,8 @@
 -- The outcome of a circuit: its least period and what shows it, or what forbids every period.
 -- Fishburn, "Clock Skew Optimization", 1990.
 use Rattle.cts_base.specs.declared.fraction.Fraction.{Fraction}
-use Rattle.cts_model.specs.Vocabulary.{Circuit, Tech, ZeroSkew, PeriodShow, IsZeroSkew, HasSmallDelays, IsLeastFraction, IsPeriodShow, IsForbidding}
+use Rattle.outcomes.specs.Types.{Circuit, Tech, ZeroSkew, PeriodShow}
+use Rattle.cts_model.specs.Vocabulary.{IsZeroSkew, HasSmallDelays, IsLeastFraction, IsPeriodShow, IsForbidding}
 use Rattle.critical_cycle.specs.CyclePlaces.{IsFromLowest}
 use Rattle.outcomes.specs.declared.period.PeriodOutcome.{PeriodOutcome}
 use Rattle.outcomes.specs.declared.period.PeriodOutcome.TheVariants.{Found, Never}

@@ -2,7 +2,8 @@
 -- what they spare. Fishburn, "Clock Skew Optimization", 1990.
 use Rattle.std.specs.Prelude.{◌^◌, List, All}
 use Rattle.cts_base.specs.declared.fraction.Fraction.{Fraction}
-use Rattle.cts_model.specs.Vocabulary.{Circuit, Tech, ZeroSkew, PeriodShow, Schedule, Slack, IsForbidding, HasSmallDelays, IsBelow, IsLeastSchedule, IsSmallPeriod, AreSlacks}
+use Rattle.outcomes.specs.Types.{Circuit, Tech, ZeroSkew, PeriodShow, Schedule, Slack}
+use Rattle.cts_model.specs.Vocabulary.{IsForbidding, HasSmallDelays, IsBelow, IsLeastSchedule, IsSmallPeriod, AreSlacks}
 use Rattle.outcomes.specs.declared.period.PeriodOutcome.{PeriodOutcome}
 use Rattle.outcomes.specs.declared.period.PeriodOutcome.TheVariants as periods
 use Rattle.outcomes.specs.declared.scheduling.ScheduleOutcome.{ScheduleOutcome}

@@ -1,5 +1,5 @@
 -- Where the cycle that shows a period begins.
-use Rattle.cts_model.specs.Vocabulary.{PeriodShow, Cycle, Floor}
+use Rattle.outcomes.specs.Types.{PeriodShow, Cycle, Floor}
 use Rattle.critical_cycle.specs.CyclePlaces.{IsFromLowest}
 
 -- the cycle that shows a period, if one does, begins at its lowest register

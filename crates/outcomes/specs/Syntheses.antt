@@ -2,7 +2,8 @@
 -- for its topology that realises the schedule. Fishburn 1990; Boese and Kahng 1992; Chao and others
 -- 1992.
 use Rattle.std.specs.Prelude.{◌≡◌, ℕ, ℤ, List, length, take, slice_get, IsSomeAnd}
-use Rattle.cts_model.specs.Vocabulary.{Point, Problem, Report, Second, Merge, Topology, Wire, ArePathsOf, IsConstraintOf, IsDrawn, Embedding, IsEmbedding, IsLeastWire, embedding_of, total_wire, IsGreedy, EachLead, IsLeastFraction, IsPeriodShow, RealisesSchedule, IsOfSize, IsWithinBounds, IsLeastSchedule, sinks_in, source_in, IsLeastForSchedule, AreSlacks, IsParent, IsTopology, MeetsByWire}
+use Rattle.outcomes.specs.Types.{Point, Problem, Report, Second, Merge, Topology, Wire}
+use Rattle.cts_model.specs.Vocabulary.{ArePathsOf, IsConstraintOf, IsDrawn, Embedding, IsEmbedding, IsLeastWire, embedding_of, total_wire, IsGreedy, EachLead, IsLeastFraction, IsPeriodShow, RealisesSchedule, IsOfSize, IsWithinBounds, IsLeastSchedule, sinks_in, source_in, IsLeastForSchedule, AreSlacks, IsParent, IsTopology, MeetsByWire}
 pub use Rattle.place_down.specs.Trees.{IsPlacedTree}
 use Rattle.wire_detours.specs.WirePoints.{ArePoints}
 

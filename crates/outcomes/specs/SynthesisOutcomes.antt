@@ -1,6 +1,7 @@
 -- The outcome of a synthesis: the report of the tree, or what forbids every period. Fishburn,
 -- "Clock Skew Optimization", 1990.
-use Rattle.cts_model.specs.Vocabulary.{Problem, Topology, IsForbidding, IsShown}
+use Rattle.outcomes.specs.Types.{Problem, Topology}
+use Rattle.cts_model.specs.Vocabulary.{IsForbidding, IsShown}
 use Rattle.critical_cycle.specs.CyclePlaces.{IsFromLowest}
 use Rattle.outcomes.specs.declared.synthesis.Outcome.{Outcome}
 use Rattle.outcomes.specs.declared.synthesis.Outcome.TheVariants.{Done, Never}

@@ -2,7 +2,8 @@
 use Rattle.place_down.proofs.Vocabulary.{◌≡◌, ◌↔◌, ℕ, ◌+◌, ◌-◌, ◌*◌, ◌^◌, ◌<◌, ◌≤◌, inl, inr, true, false, ℤ, pos, ◌-ℤ◌, ◌*ℤ◌, ◌≤ℤ◌, List, Some, unwrap_or, length, get_or, slice_get, slice_set, refl, sym, ap, subst, ◌∙◌, arith, cases_lt, ints, clamps, slice_get_cases, slice_get_within, slice_get-get_or, get_or_from_slice_get, Point, Sink, Uv, Merge, Show, AreChosen, IsEmbedding, embedding_of, IsBelow, IsMultipleOf, IsUvBelow, IsUvMultipleOf, scaled, rotated, rotated_distance, InRegion, AreTreeSinks, IsTopology, IsParent, Joins, root_of, source_of, has_parent, parent_stands, distance_from_zero, same_uv, some_and, sinks_below-sink, IsMerged, IsSourcePlaced, WorkState, IsFit, IsSettled, set_held, set_kept, contains_itself, CanSettle, IsSettledBelow, StandFrom, StandsBelow, StaysAbove, standing, IsTop, HasTreeNumbers, IsEdgeLength, IsPlacedTree, IsTreeSource, StaysMerged, merged_as, reach_in, Top}
 use Rattle.std.specs.Prelude.{All, Bool, IsTrue, Option}
 use Rattle.std.proofs.lemmas.Grind.{get_or-set_at}
-use Rattle.cts_model.specs.Vocabulary.{Root, AreShownBy}
+use Rattle.cts_model.specs.declared.tree.Show.TheVariants.{Root}
+use Rattle.cts_model.specs.Vocabulary.{AreShownBy}
 use Rattle.place_down.proofs.RegionBounds.{below_more, holds_node, over_one, place_of_node, point_below_more, region_of_source}
 use Rattle.place_down.proofs.Standing.{IsReady, above_twice, can_settle, child_above, child_stands, held_small, merged_kept, merged_still, origin, point_of, stays_below}
 

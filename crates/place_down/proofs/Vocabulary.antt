@@ -10,7 +10,12 @@ pub use Rattle.std.specs.List.{Contains}
 pub use Rattle.cts_model.proofs.ParentLemmas.{has_parent, parent_stands, made_parent, joined_by, parent_above, one_parent}
 pub use Rattle.cts_model.proofs.PointLemmas.{distance_from_zero, same_uv, distance-rotated}
 pub use Rattle.cts_model.proofs.TopologyLemmas.{some_and, sinks_below-sink, sinks_below-merge, sinks_below-among, some_sink, merge_at, merge_here}
-pub use Rattle.cts_model.specs.Vocabulary.{Point, Sink, Uv, Merge, Show, IsBelow, IsMultipleOf, IsUvBelow, IsUvMultipleOf, scaled, rotated, rotated_distance, IsPointBelow, apart, AreChosen, IsChosenPlace, IsSourceReach, IsEmbedding, embedding_of, InRegion, IsDoubleReach, AreTreeSinks, IsTreeSink, IsTopology, IsParent, Joins, root_of, source_of, sinks_below}
+pub use Rattle.cts_model.specs.declared.place.Point.{Point}
+pub use Rattle.cts_model.specs.declared.place.Sink.{Sink}
+pub use Rattle.cts_model.specs.declared.place.Uv.{Uv}
+pub use Rattle.cts_model.specs.declared.tree.Merge.{Merge}
+pub use Rattle.cts_model.specs.declared.tree.Show.{Show}
+pub use Rattle.cts_model.specs.Vocabulary.{IsBelow, IsMultipleOf, IsUvBelow, IsUvMultipleOf, scaled, rotated, rotated_distance, IsPointBelow, apart, AreChosen, IsChosenPlace, IsSourceReach, IsEmbedding, embedding_of, InRegion, IsDoubleReach, AreTreeSinks, IsTreeSink, IsTopology, IsParent, Joins, root_of, source_of, sinks_below}
 pub use Rattle.merge_up.proofs.WorkLemmas.{set_held, set_kept, merge_along, node_of, sink_along}
 pub use Rattle.merge_up.specs.Merging.{IsMerged, IsSourcePlaced, IsPointOf, IsNodeSettled, placed_as}
 pub use Rattle.merge_up.specs.Works.{WorkState, IsFit, IsSettled}

@@ -1,6 +1,10 @@
 -- A tree that gets its places from the source down: Boese and Kahng 1992; Chao and others 1992.
 use Rattle.std.specs.Prelude.{◌≡◌, ℕ, ◌+◌, ◌^◌, ◌<◌, ◌≤◌, Bool, true, false, List, Some, length, slice_get, slice_index_or, ℤ, ◌-ℤ◌, ◌≤ℤ◌}
-use Rattle.cts_model.specs.Vocabulary.{Point, Sink, Uv, Merge, IsChosenPlace, embedding_of, IsBelow, IsUvBelow, IsUvMultipleOf, distance, rotated, IsParent, sinks_below, source_of}
+use Rattle.cts_model.specs.declared.place.Point.{Point}
+use Rattle.cts_model.specs.declared.place.Sink.{Sink}
+use Rattle.cts_model.specs.declared.place.Uv.{Uv}
+use Rattle.cts_model.specs.declared.tree.Merge.{Merge}
+use Rattle.cts_model.specs.Vocabulary.{IsChosenPlace, embedding_of, IsBelow, IsUvBelow, IsUvMultipleOf, distance, rotated, IsParent, sinks_below, source_of}
 use Rattle.merge_up.specs.Merging.{IsMerged, IsNodeSettled, placed_as}
 use Rattle.merge_up.specs.Works.{WorkState, IsFit}
 use Rattle.tilted_rect.specs.Rects.{IsNearest}

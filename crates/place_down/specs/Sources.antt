@@ -1,6 +1,9 @@
 -- How far the source reaches over the sinks that were looked at, and what shows it.
 use Rattle.std.specs.Prelude.{◌≡◌, ◌↔◌, ◌*◌, ◌^◌, ℤ, List}
-use Rattle.cts_model.specs.Vocabulary.{Sink, Uv, Root, IsSourceReach, IsBelow, IsMultipleOf, ShowsSource}
+use Rattle.cts_model.specs.declared.place.Sink.{Sink}
+use Rattle.cts_model.specs.declared.place.Uv.{Uv}
+use Rattle.cts_model.specs.declared.tree.Show.TheVariants.{Root}
+use Rattle.cts_model.specs.Vocabulary.{IsSourceReach, IsBelow, IsMultipleOf, ShowsSource}
 use Rattle.place_down.specs.declared.source.Top.{Top}
 
 -- the reach over the first of the sinks, shown among them all, by the root where it is that of

@@ -1,7 +1,13 @@
 -- What a tree is whose nodes have their places: Boese and Kahng 1992; Chao and others 1992. Places,
 -- lengths and reaches are in grid steps.
 use Rattle.std.specs.Prelude.{◌≡◌, ◌↔◌, ℕ, ◌<◌, ◌+◌, ◌*◌, ◌^◌, ℤ, pos, ◌≤ℤ◌, Bool, List, All, Some, length, slice_get, slice_index_or}
-use Rattle.cts_model.specs.Vocabulary.{Sink, Uv, Merge, Show, Root, Tree, AreChosen, IsSourceReach, IsEmbedding, embedding_of, IsBelow, IsMultipleOf, IsUvBelow, IsUvMultipleOf, rotated, AreReaches, AreShownBy, root_of, source_of}
+use Rattle.cts_model.specs.declared.place.Sink.{Sink}
+use Rattle.cts_model.specs.declared.place.Uv.{Uv}
+use Rattle.cts_model.specs.declared.tree.Merge.{Merge}
+use Rattle.cts_model.specs.declared.tree.Show.{Show}
+use Rattle.cts_model.specs.declared.tree.Show.TheVariants.{Root}
+use Rattle.cts_model.specs.declared.tree.Tree.{Tree}
+use Rattle.cts_model.specs.Vocabulary.{AreChosen, IsSourceReach, IsEmbedding, embedding_of, IsBelow, IsMultipleOf, IsUvBelow, IsUvMultipleOf, rotated, AreReaches, AreShownBy, root_of, source_of}
 use Rattle.merge_up.specs.Works.{WorkState}
 
 -- the source as sinks are: its place is a whole number of 8 grid steps

@@ -1,5 +1,6 @@
 ghost use Rattle.std.specs.Prelude.{◌≡◌, ◌*◌, ◌^◌, ◌++◌, [], ◌∷◌, ℤ, ◌+ℤ◌, List, Some, slice_get};
-ghost use Rattle.cts_model.specs.Vocabulary.{Sink, IsBelow, IsMultipleOf, rotated, rotated_distance, AreTreeSinks, IsTreeSink};
+ghost use Rattle.cts_model.specs.declared.place.Sink.{Sink};
+ghost use Rattle.cts_model.specs.Vocabulary.{IsBelow, IsMultipleOf, rotated, rotated_distance, AreTreeSinks, IsTreeSink};
 ghost use Rattle.place_down.specs.Sources.{IsTop};
 ghost use Rattle.place_down.specs.Trees.{IsTreeSource};
 

@@ -1,6 +1,6 @@
 -- What a text that is a placement, and one that leaves a register without a place, say.
 use Rattle.place_reader.proofs.Vocabulary.{◌≡◌, ℕ, ◌+◌, ◌<◌, Bool, true, false, cond, List, [], ◌∷◌, ◌++◌, map, length, Option, Some, None, Result, Ok, Err, refl, ap, ◌∙◌, arith, option_or, result_map_both, length-map, first_fault, first_fault_after, unless_faulty, lines_of, NumberFault, Circuit, Point, point_of, Entry, Blank, Header, Stands, PlaceFault, NoPlace, AcceptsPlacement, RefusesPlacement, entry_fault, fault_of, is_among, node_fault, place_of, places_after, places_in, points_from, register_nodes, wanted_nodes, with_source}
-use Rattle.cts_model.specs.Vocabulary.{Places}
+use Rattle.cts_model.specs.declared.place.Places.{Places}
 
 -- the lines give the places of a placement
 pub record GivePlaces (given : List (List ℕ × Point)) (circuit : Circuit) (source host : List ℕ)

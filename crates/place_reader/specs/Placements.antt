@@ -9,7 +9,11 @@ use Rattle.std.specs.Str.{bytes_eq}
 use Rattle.cts_base.specs.LineFormats.{first_fault, unless_faulty}
 use Rattle.cts_base.specs.Lines.{lines_of}
 use Rattle.cts_base.specs.declared.number.NumberFault.{NumberFault}
-use Rattle.cts_model.specs.Vocabulary.{Signal, Circuit, Point, Places, is_host, point_of, Entry, Blank, Header, Stands, entry_after}
+use Rattle.cts_model.specs.declared.signal.Signal.{Signal}
+use Rattle.cts_model.specs.declared.circuit.Circuit.{Circuit}
+use Rattle.cts_model.specs.declared.place.Point.{Point}
+use Rattle.cts_model.specs.declared.place.Places.{Places}
+use Rattle.cts_model.specs.Vocabulary.{is_host, point_of, Entry, Blank, Header, Stands, entry_after}
 use Rattle.place_reader.specs.declared.fault.PlaceFault.{PlaceFault}
 use Rattle.place_reader.specs.declared.fault.PlaceFault.TheVariants.{BadLine, BadNumber, PlaceTwice, NoPlace, NoSource}
 

@@ -1,7 +1,8 @@
 -- What the reader keeps of the lines so far, and what a line changes.
 use Rattle.std.specs.Prelude.{◌≡◌, ℕ, Bool, ◌||◌, List, [], ◌++◌, Some, None, if◌then◌else◌, IsTrue}
 use Rattle.std.specs.Option.{option_to_list}
-use Rattle.cts_model.specs.Vocabulary.{Point, Entry, Blank, Header, Stands, has_begun}
+use Rattle.cts_model.specs.declared.place.Point.{Point}
+use Rattle.cts_model.specs.Vocabulary.{Entry, Blank, Header, Stands, has_begun}
 use Rattle.place_reader.specs.declared.placing.Placing.{Placing}
 use Rattle.place_reader.specs.View.{is_written}
 use Rattle.place_reader.specs.Placements.{entry_fault, is_among, place_by, place_of, places_after}

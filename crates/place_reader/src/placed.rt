@@ -1,5 +1,5 @@
 ghost use Rattle.std.specs.Prelude.{◌≡◌, List, ℕ, [], ◌∷◌, ◌++◌, map, None, OnOk};
-ghost use Rattle.cts_model.specs.Vocabulary.{Point};
+ghost use Rattle.cts_model.specs.declared.place.Point.{Point};
 ghost use Rattle.place_reader.specs.Placements.{place_of};
 
 use cts_base::NoMemory;

@@ -1,6 +1,6 @@
 -- Points are the same where their coordinates are.
 use Rattle.tilted_rect.proofs.Vocabulary.{◌≡◌, ◌+ℤ◌, ◌-ℤ◌, Uv, rotated}
-use Rattle.cts_model.specs.Vocabulary.{Point}
+use Rattle.cts_model.specs.declared.place.Point.{Point}
 
 pub same_point : {a b : Point} → a.x ≡ b.x → a.y ≡ b.y → a ≡ b
 same_point x y = λ i. record { x = x i; y = y i }

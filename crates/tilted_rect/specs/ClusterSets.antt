@@ -1,7 +1,7 @@
 -- Of which sinks a cluster is. Boese and Kahng 1992; Chao and others 1992.
 use Rattle.std.specs.Prelude.{List, ℤ, ◌-ℤ◌}
 use Rattle.std.specs.Int.{int_max}
-use Rattle.cts_model.specs.Vocabulary.{Sink}
+use Rattle.cts_model.specs.declared.place.Sink.{Sink}
 use Rattle.tilted_rect.specs.Clusters.{IsReachAndRegion}
 use Rattle.tilted_rect.specs.Rects.{gap_of}
 use Rattle.tilted_rect.specs.declared.cluster.Cluster.{Cluster}

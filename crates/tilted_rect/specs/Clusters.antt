@@ -1,7 +1,8 @@
 -- Clusters as deferred merging keeps them: of a set of sinks the reach and the region at that
 -- reach. Boese and Kahng 1992; Chao and others 1992.
 use Rattle.std.specs.Prelude.{List, All, ℤ, ◌+ℤ◌}
-use Rattle.cts_model.specs.Vocabulary.{Sink, IsDoubleReach, IsTreeSink}
+use Rattle.cts_model.specs.declared.place.Sink.{Sink}
+use Rattle.cts_model.specs.Vocabulary.{IsDoubleReach, IsTreeSink}
 use Rattle.tilted_rect.specs.Extremes.{IsRegion}
 use Rattle.tilted_rect.specs.declared.rect.Rect.{Rect}
 

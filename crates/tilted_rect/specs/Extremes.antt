@@ -2,7 +2,9 @@
 -- that its reach and its regions depend on.
 use Rattle.std.specs.Prelude.{◌≡◌, ◌↔◌, ℕ, List, Contains, ℤ, pos, ◌+ℤ◌, ◌-ℤ◌, ◌*ℤ◌, ◌≤ℤ◌}
 use Rattle.std.specs.Int.{int_max, int_min}
-use Rattle.cts_model.specs.Vocabulary.{Sink, Uv, IsMultipleOf, IsUvMultipleOf, InRegion}
+use Rattle.cts_model.specs.declared.place.Sink.{Sink}
+use Rattle.cts_model.specs.declared.place.Uv.{Uv}
+use Rattle.cts_model.specs.Vocabulary.{IsMultipleOf, IsUvMultipleOf, InRegion}
 use Rattle.tilted_rect.specs.Rects.{Holds, HasSides}
 use Rattle.tilted_rect.specs.declared.rect.Rect.{Rect}
 

@@ -1,7 +1,9 @@
 -- What merging by rectangles alone rests on, for every set of sinks: Boese and Kahng 1992; Chao and
 -- others 1992. Each law is the clause of a function of the module laws.
 use Rattle.std.specs.Prelude.{◌≡◌, ◌↔◌, ℕ, List, [], ◌∷◌, ◌++◌, Contains, ℤ, pos, ◌+ℤ◌, ◌-ℤ◌, ◌*ℤ◌, ◌≤ℤ◌, ◌<ℤ◌}
-use Rattle.cts_model.specs.Vocabulary.{Sink, Uv, IsMultipleOf, span, IsGreatestSpan, IsDoubleReach, InRegion, MeetTwoByTwo, IsUnion}
+use Rattle.cts_model.specs.declared.place.Sink.{Sink}
+use Rattle.cts_model.specs.declared.place.Uv.{Uv}
+use Rattle.cts_model.specs.Vocabulary.{IsMultipleOf, span, IsGreatestSpan, IsDoubleReach, InRegion, MeetTwoByTwo, IsUnion}
 use Rattle.tilted_rect.specs.Rects.{IsNear, HasSides, gap_of}
 use Rattle.tilted_rect.specs.Extremes.{u_above, u_below, v_above, v_below, Extremes, IsExtremes, spread, joined, joined_twice, IsBetween, HasExtremeSides, IsRegion, IsGrown, IsMeeting, AreMultiplesOf, AreSidesMultiples}
 use Rattle.tilted_rect.specs.declared.rect.Rect.{Rect}

@@ -2,7 +2,8 @@
 -- others 1992. A point is given by its numerators over a scale, so that all fractions are meant.
 use Rattle.std.specs.Prelude.{◌≡◌, ℕ, ℤ, pos, ◌+ℤ◌, ◌-ℤ◌, ◌*ℤ◌, ◌≤ℤ◌}
 use Rattle.std.specs.Int.{int_max}
-use Rattle.cts_model.specs.Vocabulary.{Uv, IsBelow, apart, rotated_distance, scaled}
+use Rattle.cts_model.specs.declared.place.Uv.{Uv}
+use Rattle.cts_model.specs.Vocabulary.{IsBelow, apart, rotated_distance, scaled}
 use Rattle.tilted_rect.specs.Corners.{bound}
 use Rattle.tilted_rect.specs.Intervals.{between, clamped}
 use Rattle.tilted_rect.specs.declared.rect.Rect.{Rect}

@@ -19,7 +19,8 @@ pub struct Cluster {
 
 impl Cluster {
     ghost use Rattle.std.specs.Prelude.{◌≡◌, List, [], ◌∷◌, ◌+ℤ◌, ◌-ℤ◌, ◌≤ℤ◌};
-    ghost use Rattle.cts_model.specs.Vocabulary.{Sink, IsDoubleReach, IsUnion, IsTreeSink};
+    ghost use Rattle.cts_model.specs.declared.place.Sink.{Sink};
+    ghost use Rattle.cts_model.specs.Vocabulary.{IsDoubleReach, IsUnion, IsTreeSink};
     ghost use Rattle.tilted_rect.specs.Extremes.{IsGrown};
     ghost use Rattle.tilted_rect.specs.ClusterSets.{IsCluster, cost_of};
 

@@ -21,7 +21,8 @@ pub struct Rect {
 impl Rect {
     ghost use Rattle.std.specs.Prelude.{ℕ, ◌+ℤ◌, ◌-ℤ◌, ◌<ℤ◌, ◌↔◌, IsNone, IfSome};
     ghost use Rattle.std.specs.Int.{int_max, int_min};
-    ghost use Rattle.cts_model.specs.Vocabulary.{Uv, IsMultipleOf, IsUvBelow, IsUvMultipleOf, scaled};
+    ghost use Rattle.cts_model.specs.declared.place.Uv.{Uv};
+    ghost use Rattle.cts_model.specs.Vocabulary.{IsMultipleOf, IsUvBelow, IsUvMultipleOf, scaled};
     ghost use Rattle.tilted_rect.specs.Corners.{bound};
     ghost use Rattle.tilted_rect.specs.Rects.{Holds, HoldBoth, IsNear, HasSides, CanGrowBy, gap_of, IsLeastDistance, clamped_into, IsNearest};
 

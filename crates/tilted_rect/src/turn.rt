@@ -1,5 +1,6 @@
 ghost use Rattle.std.specs.Prelude.{◌≡◌, ◌^◌};
-ghost use Rattle.cts_model.specs.Vocabulary.{IsPointBelow, IsUvBelow, IsUvMultipleOf, IsPointMultipleOf, rotated, Point};
+ghost use Rattle.cts_model.specs.declared.place.Point.{Point};
+ghost use Rattle.cts_model.specs.Vocabulary.{IsPointBelow, IsUvBelow, IsUvMultipleOf, IsPointMultipleOf, rotated};
 
 use cts_model::{Point, Uv, half};
 

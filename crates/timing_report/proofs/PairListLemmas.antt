@@ -1,6 +1,8 @@
 -- From a list of all joined pairs to the definition over paths.
 use Rattle.timing_report.proofs.Vocabulary.{ℕ, ◌≡◌, ◌<◌, List, length, get_or, All, sym, subst, arith, ℤ, ◌≤ℤ◌, ints, Circuit, Tech, PairDelay, IsPath, least_delay, greatest_delay, ListsPairs, IsSmallPair, HasSmallDelays, IsFirstOf, IsTooQuick, Needs, IsEnoughForAll, IsZeroSkewOf}
-use Rattle.cts_model.specs.Vocabulary.{ZeroSkew, Fails, Setup, IsPairDelay, ComesBefore, IsFirstPair, FailsHold, NeedsPeriod, IsEnough, IsZeroSkew}
+use Rattle.cts_model.specs.declared.timing.ZeroSkew.{ZeroSkew}
+use Rattle.cts_model.specs.declared.timing.ZeroSkew.TheVariants.{Fails, Setup}
+use Rattle.cts_model.specs.Vocabulary.{IsPairDelay, ComesBefore, IsFirstPair, FailsHold, NeedsPeriod, IsEnough, IsZeroSkew}
 use Rattle.cts_model.specs.declared.timing.ZeroSkew.TheVariants.{Floor}
 use Rattle.cts_model.proofs.PairOrder.{earlier_place}
 use Rattle.timing_report.proofs.ListedPeriods.{small_at}

@@ -3,7 +3,9 @@ use Rattle.timing_report.proofs.Vocabulary.{◌≡◌, ◌+◌, ◌<◌, ℕ, �
 use Rattle.std.proofs.lemmas.List.{length_push}
 use Rattle.std.proofs.lemmas.List.Elements.{All-push}
 use Rattle.cts_base.specs.declared.fraction.Fraction.{Fraction}
-use Rattle.cts_model.specs.Vocabulary.{Schedule, Slack, arrival_of}
+use Rattle.cts_model.specs.declared.schedule.Schedule.{Schedule}
+use Rattle.cts_model.specs.declared.schedule.Slack.{Slack}
+use Rattle.cts_model.specs.Vocabulary.{arrival_of}
 use Rattle.path_delays.specs.declared.window.Window.{Window}
 use Rattle.path_delays.specs.Windows.{window_along, IsHull, IsHullIfAny, ComesTo, AreWindows}
 

@@ -4,7 +4,10 @@ pub use Rattle.std.proofs.lemmas.Bool.{cases_lt}
 pub use Rattle.std.proofs.lemmas.Int.{ints}
 pub use Rattle.std.proofs.lemmas.Option.{slice_get_within, slice_get-get_or, get_or_from_slice_get}
 pub use Rattle.std.specs.Prelude.{int_lt, find, nat_abs}
-pub use Rattle.cts_model.specs.Vocabulary.{Circuit, Tech, PairDelay, IsPath, least_delay, greatest_delay, IsSmallPair, ListsPairs, HasSmallDelays, setup_spare, hold_spare, IsLeastSpare, IsSlackOf, IsSlack, AreSlacks, AreSmallSlacks}
+pub use Rattle.cts_model.specs.declared.circuit.Circuit.{Circuit}
+pub use Rattle.cts_model.specs.declared.tech.Tech.{Tech}
+pub use Rattle.cts_model.specs.declared.timing.PairDelay.{PairDelay}
+pub use Rattle.cts_model.specs.Vocabulary.{IsPath, least_delay, greatest_delay, IsSmallPair, ListsPairs, HasSmallDelays, setup_spare, hold_spare, IsLeastSpare, IsSlackOf, IsSlack, AreSlacks, AreSmallSlacks}
 pub use Rattle.path_delays.proofs.WindowLemmas.{moved, pushed_cases, kept_time, kept_ticks}
 pub use Rattle.timing_report.specs.ListedPairs.{IsFirstOf, IsTooQuick, IsMostDelayed, IsEnoughForAll, IsFloorForAll, IsMostNeeded, Needs, IsZeroSkewOf}
 pub use Rattle.timing_report.specs.SpareTicks.{setup_ticks, hold_ticks, IsTicks, IsSlackAt, AreSlacksBefore}

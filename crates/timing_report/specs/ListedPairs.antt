@@ -1,7 +1,10 @@
 -- What the delays of listed pairs, in ticks, ask of the period where the clock reaches all
 -- registers at once.
 use Rattle.std.specs.Prelude.{◌≡◌, ◌<◌, ℕ, ℤ, ◌+ℤ◌, ◌≤ℤ◌, ◌<ℤ◌, List, length, All, slice_index_or}
-use Rattle.cts_model.specs.Vocabulary.{Tech, PairDelay, ZeroSkew, Fails, Setup}
+use Rattle.cts_model.specs.declared.tech.Tech.{Tech}
+use Rattle.cts_model.specs.declared.timing.PairDelay.{PairDelay}
+use Rattle.cts_model.specs.declared.timing.ZeroSkew.{ZeroSkew}
+use Rattle.cts_model.specs.declared.timing.ZeroSkew.TheVariants.{Fails, Setup}
 use Rattle.cts_model.specs.declared.timing.ZeroSkew.TheVariants.{Floor}
 
 -- the first pair of the list of which the property holds

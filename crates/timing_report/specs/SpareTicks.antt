@@ -2,7 +2,9 @@
 -- comes.
 use Rattle.std.specs.Prelude.{◌≡◌, ℕ, ℤ, ◌+ℤ◌, ◌-ℤ◌, ◌*ℤ◌, List, length, All, Option, Some, None, IsSomeAnd, MatchOption, slice_get, slice_index_or}
 use Rattle.cts_base.specs.declared.fraction.Fraction.{Fraction}
-use Rattle.cts_model.specs.Vocabulary.{Tech, Slack, arrival_of, AreSmallSlacks}
+use Rattle.cts_model.specs.declared.tech.Tech.{Tech}
+use Rattle.cts_model.specs.declared.schedule.Slack.{Slack}
+use Rattle.cts_model.specs.Vocabulary.{arrival_of, AreSmallSlacks}
 use Rattle.path_delays.specs.declared.window.Window.{Window}
 
 -- from the latest time on to the next edge, less the setup time

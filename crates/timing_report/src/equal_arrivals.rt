@@ -1,5 +1,7 @@
 ghost use Rattle.std.specs.Prelude.{◌≡◌, ◌<◌, int_lt, if◌then◌else◌, length, All, MatchOption, find, slice_index_or};
-ghost use Rattle.cts_model.specs.Vocabulary.{Circuit, PairDelay, IsZeroSkew, ListsPairs, IsSmallPair, HasSmallDelays};
+ghost use Rattle.cts_model.specs.declared.circuit.Circuit.{Circuit};
+ghost use Rattle.cts_model.specs.declared.timing.PairDelay.{PairDelay};
+ghost use Rattle.cts_model.specs.Vocabulary.{IsZeroSkew, ListsPairs, IsSmallPair, HasSmallDelays};
 ghost use Rattle.timing_report.specs.ListedPairs.{IsMostDelayed, IsZeroSkewOf};
 
 use cts_base::Listed;

@@ -13,7 +13,9 @@ pub use Rattle.std.specs.List.{All, Contains, slice_get, sum_by, slice_index_or,
 pub use Rattle.std.specs.List.Sorted.{IsPermutation}
 pub use Rattle.std.specs.Option.{IfSome, option_to_list, option_map_or, IsSome, IsSomeAnd, option_and_then, option_map, IsNone}
 pub use Rattle.std.specs.Ordering.{int_eq, is_lt}
-pub use Rattle.cts_model.specs.Vocabulary.{Sink, Merge, IsBelow, IsCheapest, IsCheaper, IsDoubleCost, IsLive, sinks_below, IsMerge}
+pub use Rattle.cts_model.specs.declared.place.Sink.{Sink}
+pub use Rattle.cts_model.specs.declared.tree.Merge.{Merge}
+pub use Rattle.cts_model.specs.Vocabulary.{IsBelow, IsCheapest, IsCheaper, IsDoubleCost, IsLive, sinks_below, IsMerge}
 pub use Rattle.slab.specs.Slab.{get, Updates}
 pub use Rattle.tilted_rect.proofs.ClusterLemmas.{cost_reach}
 pub use Rattle.tilted_rect.proofs.CodeNumbers.{kept, difference_read}

@@ -1,5 +1,6 @@
 ghost use Rattle.std.specs.Prelude.{◌≡◌, ◌+◌, ◌<◌, ◌^◌, List, [], length, IfOk, IfSome, IsNone, OnOk};
-ghost use Rattle.cts_model.specs.Vocabulary.{Sink, IsGreedy, AreTreeSinks};
+ghost use Rattle.cts_model.specs.declared.place.Sink.{Sink};
+ghost use Rattle.cts_model.specs.Vocabulary.{IsGreedy, AreTreeSinks};
 ghost use Rattle.topology.specs.declared.pair.Pair.{Pair};
 ghost use Rattle.topology.specs.LiveClusters.{AreKept, AreLive, IsCheapestPair, IsMerging, IsOrdered, IsPair, IsSwept};
 

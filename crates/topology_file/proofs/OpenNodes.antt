@@ -4,7 +4,8 @@ use Rattle.std.proofs.lemmas.Bool.Decides.{nat_tests}
 use Rattle.std.proofs.lemmas.List.Sums.{AllPass-from_list_all, list_all-from_AllPass}
 use Rattle.std.specs.List.{list_all}
 use Rattle.std.proofs.lemmas.Bool.{and_from, and_parts}
-use Rattle.cts_model.specs.Vocabulary.{Merge, IsUnjoined, IsLive, IsMerge}
+use Rattle.cts_model.specs.declared.tree.Merge.{Merge}
+use Rattle.cts_model.specs.Vocabulary.{IsUnjoined, IsLive, IsMerge}
 use Rattle.topology_file.specs.Entries.{is_open, joins_open}
 
 -- the test of one merge

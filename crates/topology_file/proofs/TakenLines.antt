@@ -3,7 +3,8 @@ use Rattle.std.proofs.Common.{◌≡◌, ◌<◌, ◌+◌, ℕ, Bool, true, fals
 use Rattle.std.proofs.lemmas.Bool.Decides.{nat_tests}
 use Rattle.std.proofs.lemmas.List.{map_push}
 use Rattle.std.proofs.lemmas.Option.{same_Some}
-use Rattle.cts_model.specs.Vocabulary.{Merge, IsMerge, entries_in, has_words, words_in, AreMarked}
+use Rattle.cts_model.specs.declared.tree.Merge.{Merge}
+use Rattle.cts_model.specs.Vocabulary.{IsMerge, entries_in, has_words, words_in, AreMarked}
 use Rattle.cts_model.proofs.EntryLemmas.{entries_round}
 use Rattle.cts_model.proofs.MarkLemmas.{marks_more}
 use Rattle.cts_model.proofs.TopologyLemmas.{EachMerge, EachMerge-push}

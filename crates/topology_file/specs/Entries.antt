@@ -6,7 +6,7 @@ use Rattle.std.specs.Prelude.{ℕ, ◌+◌, ◌==◌, ◌&&◌, Bool, false, not
 use Rattle.std.specs.List.{list_all}
 use Rattle.std.specs.Str.Parse.{digits_value}
 use Rattle.cts_base.specs.NumberTexts.{is_plain_numeral}
-use Rattle.cts_model.specs.Vocabulary.{Merge}
+use Rattle.cts_model.specs.declared.tree.Merge.{Merge}
 
 -- three whole numbers without a sign, and the first is the node that is due
 abbrev pub is_entry : (due : ℕ) → List (List ℕ) → Bool

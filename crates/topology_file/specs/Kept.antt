@@ -1,6 +1,6 @@
 -- Numbers of any length as the reader keeps them.
 use Rattle.std.specs.Prelude.{◌-◌, ◌^◌, ℕ, min}
-use Rattle.cts_model.specs.Vocabulary.{Merge}
+use Rattle.cts_model.specs.declared.tree.Merge.{Merge}
 
 -- the number, and where it is above the greatest `u32`, which no node has, that one
 abbrev pub kept_number : ℕ → ℕ

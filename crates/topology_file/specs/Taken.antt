@@ -1,6 +1,7 @@
 -- What the reader keeps of the lines so far.
 use Rattle.std.specs.Prelude.{◌≡◌, ◌<◌, ◌+◌, ℕ, true, false, List, [], ◌∷◌, ◌++◌, length, slice_get, slice_index_or, slice_set, take, Some}
-use Rattle.cts_model.specs.Vocabulary.{Merge, AreMarked, IsMerge, entries_in}
+use Rattle.cts_model.specs.declared.tree.Merge.{Merge}
+use Rattle.cts_model.specs.Vocabulary.{AreMarked, IsMerge, entries_in}
 use Rattle.topology_file.specs.declared.joining.Joining.{Joining}
 use Rattle.topology_file.specs.Entries.{merges_of}
 

@@ -2,7 +2,9 @@
 use Rattle.std.specs.Prelude.{◌≡◌, ℕ, ◌+◌, ◌==◌, not, nat_le, List, length, Option, Some, None, Result, Ok, Err, if◌then◌else◌}
 use Rattle.cts_base.specs.LineFormats.{first_fault, unless_faulty}
 use Rattle.cts_base.specs.Lines.{lines_of}
-use Rattle.cts_model.specs.Vocabulary.{Merge, Topology, entries_in, entries_of, has_words, words_in}
+use Rattle.cts_model.specs.declared.tree.Merge.{Merge}
+use Rattle.cts_model.specs.declared.tree.Topology.{Topology}
+use Rattle.cts_model.specs.Vocabulary.{entries_in, entries_of, has_words, words_in}
 use Rattle.topology_file.specs.declared.fault.TopologyFault.{TopologyFault}
 use Rattle.topology_file.specs.declared.fault.TopologyFault.TheVariants.{BadLine, NotOpen, Missing, Extra}
 use Rattle.topology_file.specs.Entries.{is_entry, joins_open, merge_of, merges_of}

@@ -3,7 +3,10 @@ pub use Rattle.std.proofs.Common.{◌≡◌, ◌≢◌, ℕ, zero, suc, ◌+◌,
 pub use Rattle.std.proofs.lemmas.List.{length-set}
 pub use Rattle.std.proofs.lemmas.List.Elements.{All-cons, All-contains, All-nil, All-set, Contains-append_right}
 pub use Rattle.cts_model.proofs.TopologyLemmas.{numbers_below-merge, numbers_below-sink, some_and, EachMerge, EachMerge-push}
-pub use Rattle.cts_model.specs.Vocabulary.{Sink, Merge, Show, IsDoubleReach, span, ShowsMerge, AreTreeSinks, IsTreeSink, IsTopology, numbers_below, sinks_below, IsMerge}
+pub use Rattle.cts_model.specs.declared.place.Sink.{Sink}
+pub use Rattle.cts_model.specs.declared.tree.Merge.{Merge}
+pub use Rattle.cts_model.specs.declared.tree.Show.{Show}
+pub use Rattle.cts_model.specs.Vocabulary.{IsDoubleReach, span, ShowsMerge, AreTreeSinks, IsTreeSink, IsTopology, numbers_below, sinks_below, IsMerge}
 pub use Rattle.merge_up.proofs.WorkLemmas.{merges_renewed, merges_set, set_kept, IsBegun, begun_next, joined_held}
 pub use Rattle.merge_up.specs.Merging.{HoldsMerge, IsRenewed, IsSinkSet, HoldsSink, IsMerged, IsUnsettled}
 pub use Rattle.merge_up.specs.Works.{WorkState, IsFit}

@@ -1,6 +1,6 @@
 -- What a wire with the points of a case promises: they are a drawn wire, and those of the table.
 use Rattle.wire_detours.proofs.Vocabulary.{◌≡◌, ◌≢◌, ◌⊎◌, ℕ, zero, suc, ◌≤◌, [], ◌∷◌, All, take, replicate, inl, inr, ℤ, pos, ◌+ℤ◌, ◌≤ℤ◌, ◌<ℤ◌, refl, sym, ap, subst, arith, ints, by_lt_z, All-nil, All-cons, Point, distance, ArePadded, IsDrawn, ArePoints, HasDetour, origin, shown, bent, under, over, beside, round}
-use Rattle.cts_model.specs.Vocabulary.{Wire}
+use Rattle.cts_model.specs.declared.tree.Wire.{Wire}
 use Rattle.wire_detours.proofs.PieceLemmas.{apart_least, apart_more, apart_same}
 use Rattle.wire_detours.proofs.DetourLemmas.{distance_least}
 use Rattle.wire_detours.proofs.DrawnLemmas.{drawn_place, drawn_upright, drawn_level, drawn_bent, drawn_under, drawn_over, drawn_beside, drawn_round}

@@ -2,7 +2,9 @@
 -- half of what is beyond (snaking), on the side where the node isn't: Boese and Kahng 1992; Chao
 -- and others 1992.
 use Rattle.std.specs.Prelude.{◌≡◌, ◌≢◌, ◌⊎◌, ℕ, ◌-◌, List, [], ◌∷◌, ◌++◌, replicate, ℤ, pos, ◌+ℤ◌, ◌-ℤ◌, ◌<ℤ◌, ◌≤ℤ◌}
-use Rattle.cts_model.specs.Vocabulary.{Point, distance, Wire}
+use Rattle.cts_model.specs.declared.place.Point.{Point}
+use Rattle.cts_model.specs.declared.tree.Wire.{Wire}
+use Rattle.cts_model.specs.Vocabulary.{distance}
 
 -- the point with these coordinates
 abbrev pub at : ℤ → ℤ → Point

@@ -1,5 +1,5 @@
 use Rattle.cts_c.proofs.Vocabulary.{inr, subst, IfErr-weaker, IfOk-weaker, err_from_is_err_and, JoinsMoreThan, one_problem}
-use Rattle.cts_model.specs.Vocabulary.{Problem}
+use Rattle.cts_model.specs.declared.problem.Problem.{Problem}
 use Rattle.cts_c.proofs.RefusalLemmas.{fails_alone, fails_for}
 use Rattle.cts_c.proofs.synthesis.answer_for.Goals as goal
 

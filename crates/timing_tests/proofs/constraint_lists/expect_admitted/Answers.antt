@@ -1,5 +1,5 @@
 use Rattle.timing_tests.proofs.Vocabulary.{All, subst, ◌∙◌, nat_abs, take_all, All-more, IsSatisfied, arrival_of}
-use Rattle.cts_model.specs.Vocabulary.{Constraint}
+use Rattle.cts_model.specs.declared.constraint.Constraint.{Constraint}
 use Rattle.timing_tests.proofs.constraint_lists.expect_admitted.Goals as goal
 
 pub loop-constraint-preserved : goal.loop-constraint-preserved
