@@ -1,7 +1,7 @@
 #!/usr/bin/env python3
 """Follows each definition that the promises below and the clauses of `run` rest on, from file to file, and fails where no row of
-docs/DEFINITIONS.md names one with its file, where a row names one that its files don't have, and where a part of them is larger than
-the page says at its head."""
+docs/DEFINITIONS.md names one with its file, where a row names one that its files don't have, where a part of them is larger than
+the page says at its head, and where the table that is to be read first differs from the core."""
 import argparse
 import glob
 import os
@@ -139,6 +139,19 @@ def larger_parts(texts, imports, start, page):
             yield f"docs/DEFINITIONS.md says {told.get(name)} definitions and lines of {name}, which has {found}"
 
 
+def misread(texts, imports, page):
+    """What the table that is to be read first says wrongly: rows with another number of lines, and what of the core is in none."""
+    left = followed(texts, imports, CORE)
+    for row in re.findall(r"^\| .* \|$", page[page.index("| To read |") :].split("\n\n")[0], re.MULTILINE)[1:]:
+        what, file, names, lines = (cell.strip() for cell in row.strip("|").split(" | "))
+        place = file.split(".antt")[0].replace("/", ".")
+        here = {definition for definition in left if definition[1] == place and f"`{definition[2]}`" in names}
+        left -= here
+        if (len(here), int(lines)) != (names.count("`") // 2, size_of(texts, here)[1]):
+            yield f"docs/DEFINITIONS.md says {lines} lines of what to read of {what}, which has {size_of(texts, here)[1]}"
+    yield from (f"docs/DEFINITIONS.md doesn't name {name} of the core among what to read first" for _, _, name in sorted(left))
+
+
 def main():
     parser = argparse.ArgumentParser(description=__doc__)
     parser.add_argument("--of", nargs=3, metavar=("CRATE", "FILE", "NAME"), help="begin at this definition alone")
@@ -147,9 +160,9 @@ def main():
     start = [tuple(other)] if other else PROMISES + sorted(clauses_of_run(texts, imports))
     passed = followed(texts, imports, start)
     page = text_of("docs/DEFINITIONS.md")
-    larger = [] if other else list(larger_parts(texts, imports, start, page))
-    print(*larger, sep="\n", end="\n" if larger else "")
-    named, failed = set(), len(larger)
+    wrong = [] if other else [*larger_parts(texts, imports, start, page), *misread(texts, imports, page)]
+    print(*wrong, sep="\n", end="\n" if wrong else "")
+    named, failed = set(), len(wrong)
     for names, places in rows_of(page):
         for name in names:
             there = {(*place, name) for place in places} & texts.keys()
