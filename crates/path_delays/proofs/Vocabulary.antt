@@ -43,7 +43,7 @@ pub use Rattle.path_delays.specs.ExtremePaths.{IsExtremeIfAny, delay_by, extreme
 pub use Rattle.path_delays.specs.Handing.{delay_at, lane_at, lanes_at, rank_at, HasReachRoom, IsSameRoom, IsHanded, IsMarked, IsOpened, AreHanded, limit_at, most_at, limit_of, most_of, no_delay, sums_at, waits_at, IsCleared, IsStarted, IsHandedOn}
 pub use Rattle.path_delays.specs.JoinedPairs.{IsJoinedBy, AreDelaysBetween, ListsPairsBefore, MeetsLimit, ShowsTooMany, pair_limit, IsDelayBetween, ArePairs}
 pub use Rattle.path_delays.specs.LaneParts.{AllBounded, lane_of}
-pub use Rattle.path_delays.specs.LaneTables.{GetsSums, row_at, rows_of, table_limit, lane_in}
+pub use Rattle.path_delays.specs.LaneTables.{CanHand, GetsSums, IsJoined, IsMerged, IsPassed, lane_in, row_at, rows_of, table_limit}
 pub use Rattle.path_delays.specs.NarrowParts.{ArePassable, greatest_in, least_in, narrow_limit, wide_greatest, wide_lanes, wide_least}
 pub use Rattle.path_delays.specs.Networks.{gate_sums, weight_of, AreInputs, AreInputsBelow, AreRanks, IsNetworkOf, AreAllReads, all_reads_by, AreReaders, HasPlaceInOrder, ArePlaces, weight_at, IsLeftAfter, AreCapturedUpTo}
 pub use Rattle.path_delays.specs.NumberSets.{has_number, AreInserted, AreListed, IsLowestTaken, IsInserted, IsCommon, IsFirstFilled}

@@ -1,21 +1,17 @@
 -- The gate joins the sums with its own, or holds them alone and waits.
-use Rattle.path_delays.proofs.Vocabulary.{◌∙◌, pos, sym, subst, arith, get_or_default, IsInserted, limit_of}
-use Rattle.path_delays.proofs.Hands.{IsHanded-merged, IsHanded-passed, row_bounded}
+use Rattle.path_delays.proofs.Vocabulary.{◌∙◌, pos, sym, subst, arith, get_or_default, IsInserted}
+use Rattle.path_delays.proofs.Hands.{CanHand-there, IsHanded-merged, IsHanded-passed}
 use Rattle.path_delays.proofs.reach.Reach.hand_to.Goals as goal
 
-pub merge-requires-clause-sums : goal.merge-requires-clause-sums
-merge-requires-clause-sums c = row_bounded c.args.self.now c.args.signal (limit_of c.args.self.now)
-    c.requires.reached c.requires.small
+pub merge-requires : goal.merge-requires
+merge-requires c = CanHand-there c.args.network.now c.args.self.now c.args.signal c.args.gate
+    c.index-delay.result.now c.requires.room c.requires.signal c.requires.gate c.requires.reached
+    c.requires.small c.index-delay.ensures
 
-pub merge-requires-clause-delay : goal.merge-requires-clause-delay
-merge-requires-clause-delay c = grind (arith)
-
-pub pass-requires-clause-sums : goal.pass-requires-clause-sums
-pass-requires-clause-sums c = row_bounded c.args.self.now c.args.signal (limit_of c.args.self.now)
-    c.requires.reached c.requires.small
-
-pub pass-requires-clause-delay : goal.pass-requires-clause-delay
-pass-requires-clause-delay c = grind (arith)
+pub pass-requires : goal.pass-requires
+pass-requires c = CanHand-there c.args.network.now c.args.self.now c.args.signal c.args.gate
+    c.index-delay.result.now c.requires.room c.requires.signal c.requires.gate c.requires.reached
+    c.requires.small c.index-delay.ensures
 
 pub returns-then-contains : goal.returns-then-contains
 returns-then-contains c given here = IsHanded-merged c.args.network.now c.args.self.now

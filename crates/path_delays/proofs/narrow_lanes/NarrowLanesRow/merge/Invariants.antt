@@ -1,6 +1,6 @@
 -- The lanes passed so far hold the least and the greatest of both.
 use Rattle.path_delays.proofs.Vocabulary.{ℕ, ◌≡◌, ◌<◌, ◌≤◌, int_min, int_max, greatest_in, least_in}
-use Rattle.path_delays.proofs.narrow_lanes.NarrowLanes.merge.Given as goal
+use Rattle.path_delays.proofs.narrow_lanes.NarrowLanesRow.merge.Given as goal
 
 abbrev pub invariant-loop-lane : goal.invariant-loop-lane
 invariant-loop-lane l = record {

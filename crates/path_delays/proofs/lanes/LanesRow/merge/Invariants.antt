@@ -1,6 +1,6 @@
 -- The lanes passed so far hold the least and the greatest of both.
 use Rattle.path_delays.proofs.Vocabulary.{ℕ, ◌≡◌, ◌<◌, ◌≤◌, merged_sums, lane_of}
-use Rattle.path_delays.proofs.lanes.Lanes.merge.Given as goal
+use Rattle.path_delays.proofs.lanes.LanesRow.merge.Given as goal
 
 abbrev pub invariant-loop-lane : goal.invariant-loop-lane
 invariant-loop-lane l = record {

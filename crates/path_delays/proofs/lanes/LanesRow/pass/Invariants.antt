@@ -1,6 +1,6 @@
 -- The lanes passed so far hold the sums after the gate, the later ones those before it.
 use Rattle.path_delays.proofs.Vocabulary.{ℕ, ◌≡◌, ◌<◌, ◌≤◌, sums_through, lane_of}
-use Rattle.path_delays.proofs.lanes.Lanes.pass.Given as goal
+use Rattle.path_delays.proofs.lanes.LanesRow.pass.Given as goal
 
 abbrev pub invariant-loop-lane : goal.invariant-loop-lane
 invariant-loop-lane l = record {

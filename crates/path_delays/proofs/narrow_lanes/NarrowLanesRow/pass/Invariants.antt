@@ -1,7 +1,7 @@
 -- The lanes passed so far hold the sums after the gate, the later ones those before it.
 use Rattle.path_delays.proofs.Vocabulary.{ℕ, ◌≡◌, ◌<◌, ◌≤◌, greatest_in, least_in}
 use Rattle.std.specs.Prelude.{◌+ℤ◌}
-use Rattle.path_delays.proofs.narrow_lanes.NarrowLanes.pass.Given as goal
+use Rattle.path_delays.proofs.narrow_lanes.NarrowLanesRow.pass.Given as goal
 
 abbrev pub invariant-loop-lane : goal.invariant-loop-lane
 invariant-loop-lane l = record {
