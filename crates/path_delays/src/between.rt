@@ -2,7 +2,7 @@ ghost use Rattle.std.specs.Prelude.{◌<◌, ◌≤◌, ◌++◌, ℕ, All, IfOk
 ghost use Rattle.path_delays.specs.WalkParts.{IsRoomFor};
 ghost use Rattle.path_delays.specs.JoinedPairs.{AreDelaysBetween};
 
-use crate::lanes::block_end;
+use crate::lanes::{Lane, block_end};
 use crate::pair::{captured_sums, joined_pair};
 use crate::walk::Walk;
 use cts_base::{Listed, NoMemory};
@@ -53,7 +53,7 @@ fn push_delays(
     walk.walk_between(circuit, tech, pairs);
     for (lane, pair) in pairs.iter().enumerate() {
         let captured = circuit.register_signal(pair.1 as usize).fan_in.as_slice();
-        let sums = captured_sums(walk, lane, captured);
+        let sums = captured_sums(walk, Lane { number: lane }, captured);
         delays.push(joined_pair(pair.0, pair.1, sums))?;
     }
     Ok(())

@@ -6,7 +6,7 @@ ghost use Rattle.path_delays.specs.CyclePaths.{FitsRoom, IsPathWithin, IsReached
 ghost use Rattle.path_delays.specs.WalkParts.{HasRanksOf, IsRoomFor};
 
 use crate::extreme_path::path_back;
-use crate::lanes::{LANES, block_end};
+use crate::lanes::{LANES, Lane, block_end};
 use crate::walk::Walk;
 use cts_base::{Listed, NoMemory};
 use cts_model::{Circuit, Constraint, Tech};
@@ -62,7 +62,14 @@ fn push_paths(
     walk_along(walk, circuit, tech, block, room);
     let mut left = room;
     for (lane, constraint) in block.iter().enumerate() {
-        let path = path_within(walk, alloc, circuit, lane, constraint, left)?;
+        let path = path_within(
+            walk,
+            alloc,
+            circuit,
+            Lane { number: lane },
+            constraint,
+            left,
+        )?;
         left -= path.len();
         paths.push(path)?;
     }
@@ -93,16 +100,15 @@ fn path_within(
     walk: &Walk,
     alloc: Global,
     circuit: &Circuit,
-    lane: usize,
+    lane: Lane,
     constraint: &Constraint,
     room: usize,
 ) -> Result<Listed<u32>, NoMemory>
     requires ranks { HasRanksOf circuit.now walk.now }
-    requires lane { lane < 16 }
     requires to { (pair_of constraint.now).1 < length circuit.now.registers }
     ensures path { IfOk result (λ path. (tech : Tech)
         → IsConstraintOf circuit.now tech constraint.now
-        → (0 < room → IsReachedAlong circuit.now tech constraint.now lane walk.now)
+        → (0 < room → IsReachedAlong circuit.now tech constraint.now lane.number walk.now)
         → IsPathWithin circuit.now tech constraint.now room path) }
     ensures few { IfOk result (λ path. length path ≤ room) }
 {

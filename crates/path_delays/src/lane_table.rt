@@ -4,7 +4,7 @@ ghost use Rattle.path_delays.specs.LaneTables.{CanHand, GetsSums, IsJoined, IsMe
 ghost use Rattle.path_delays.specs.NarrowParts.{narrow_limit};
 ghost use Rattle.path_delays.specs.SumParts.{AreWithin, delay_limit, no_sums, some_sums};
 
-use crate::lanes::Lanes;
+use crate::lanes::{Lane, Lanes};
 use crate::narrow_lanes::NarrowLanes;
 use crate::row::Row;
 use crate::sums::Sums;
@@ -37,9 +37,8 @@ impl LaneTable {
     }
 
     /// The sums in a lane of a signal, if there are any.
-    pub(crate) fn sums(&self, signal: usize, lane: usize) -> Option<Sums>
-        requires { lane < 16 }
-        ensures { result ≡ option_and_then some_sums (lane_in (rows_of self.now) signal lane) }
+    pub(crate) fn sums(&self, signal: usize, lane: Lane) -> Option<Sums>
+        ensures { result ≡ option_and_then some_sums (lane_in (rows_of self.now) signal lane.number) }
     {
         match self {
             LaneTable::Narrow(rows) => in_lane(rows, signal, lane),
@@ -71,12 +70,11 @@ impl LaneTable {
     }
 
     /// Joins sums in a lane of a signal.
-    pub(crate) fn join(&mut self, signal: usize, lane: usize, sums: Sums)
+    pub(crate) fn join(&mut self, signal: usize, lane: Lane, sums: Sums)
         requires signal { signal < length (rows_of self.old) }
-        requires lane { lane < 16 }
         requires sums { AreWithin (table_limit self.old) sums }
         ensures limit { table_limit self.new ≡ table_limit self.old }
-        ensures sums { IsJoined signal lane sums (rows_of self.old) (rows_of self.new) }
+        ensures sums { IsJoined signal lane.number sums (rows_of self.old) (rows_of self.new) }
     {
         match self {
             LaneTable::Narrow(rows) => join(rows, signal, lane, sums),
@@ -111,10 +109,9 @@ impl LaneTable {
 
 // The steps over rows of one width.
 
-fn in_lane<R: Row>(rows: &Vec<R>, signal: usize, lane: usize) -> Option<Sums>
-    requires { lane < 16 }
+fn in_lane<R: Row>(rows: &Vec<R>, signal: usize, lane: Lane) -> Option<Sums>
     ensures { result
-        ≡ option_and_then some_sums (lane_in (map R.wide rows.now.items) signal lane) }
+        ≡ option_and_then some_sums (lane_in (map R.wide rows.now.items) signal lane.number) }
 {
     rows.get(signal)?.in_lane(lane)
 }
@@ -137,11 +134,10 @@ fn clear<R: Row>(rows: &mut Vec<R>, signal: usize)
     rows[signal] = R::none();
 }
 
-fn join<R: Row>(rows: &mut Vec<R>, signal: usize, lane: usize, sums: Sums)
+fn join<R: Row>(rows: &mut Vec<R>, signal: usize, lane: Lane, sums: Sums)
     requires signal { signal < length (map R.wide rows.old.items) }
-    requires lane { lane < 16 }
     requires sums { AreWithin R.limit sums }
-    ensures { IsJoined signal lane sums (map R.wide rows.old.items)
+    ensures { IsJoined signal lane.number sums (map R.wide rows.old.items)
         (map R.wide rows.new.items) }
 {
     rows[signal].join(lane, sums);

@@ -6,6 +6,13 @@ use crate::sums::Sums;
 /// From how many registers a walk goes at once.
 pub(crate) const LANES: usize = 16;
 
+/// A lane of a walk.
+#[derive(Clone, Copy)]
+pub(crate) struct Lane {
+    pub(crate) number: usize,
+    pub(crate) ghost low: { number < 16 },
+}
+
 /// The sums to a signal from several registers, in a lane each.
 #[derive(Clone, Copy, Debug)]
 pub(crate) struct Lanes {
@@ -25,8 +32,8 @@ impl Row for Lanes {
         }
     }
 
-    fn in_lane(&self, lane: usize) -> Option<Sums> {
-        self.sums[lane].some()
+    fn in_lane(&self, lane: Lane) -> Option<Sums> {
+        self.sums[lane.number].some()
     }
 
     fn filled(&self) -> [bool; 16] {
@@ -37,8 +44,8 @@ impl Row for Lanes {
         filled
     }
 
-    fn join(&mut self, lane: usize, sums: Sums) {
-        self.sums[lane] = self.sums[lane].merged(sums);
+    fn join(&mut self, lane: Lane, sums: Sums) {
+        self.sums[lane.number] = self.sums[lane.number].merged(sums);
     }
 
     fn pass(&mut self, delay: Sums) {

@@ -2,7 +2,7 @@ ghost use Rattle.std.specs.Prelude.{◌≡◌, pos, ◌+ℤ◌, ◌≤ℤ◌};
 ghost use Rattle.std.specs.Int.{int_min, int_max};
 ghost use Rattle.cts_model.specs.table.Tables.{IsWithin};
 
-use crate::lanes::LANES;
+use crate::lanes::{LANES, Lane};
 use crate::row::Row;
 use crate::sums::Sums;
 
@@ -82,12 +82,12 @@ impl Row for NarrowLanes {
         }
     }
 
-    fn in_lane(&self, lane: usize) -> Option<Sums> {
-        let greatest = i64::from(self.greatest[lane].ticks);
+    fn in_lane(&self, lane: Lane) -> Option<Sums> {
+        let greatest = i64::from(self.greatest[lane.number].ticks);
         if greatest < 0 {
             return None;
         }
-        let least = i64::from(self.least[lane].ticks);
+        let least = i64::from(self.least[lane.number].ticks);
         let least = if least < i64::from(FAR) {
             least
         } else {
@@ -104,9 +104,9 @@ impl Row for NarrowLanes {
         filled
     }
 
-    fn join(&mut self, lane: usize, sums: Sums) {
-        self.least[lane] = self.least[lane].lesser(narrow(sums.least));
-        self.greatest[lane] = self.greatest[lane].greater(narrow(sums.greatest));
+    fn join(&mut self, lane: Lane, sums: Sums) {
+        self.least[lane.number] = self.least[lane.number].lesser(narrow(sums.least));
+        self.greatest[lane.number] = self.greatest[lane.number].greater(narrow(sums.greatest));
     }
 
     fn pass(&mut self, delay: Sums) {

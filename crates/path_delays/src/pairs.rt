@@ -8,7 +8,7 @@ ghost use Rattle.path_delays.specs.JoinedPairs.{ListsPairsBefore, ArePairs, Show
 
 use crate::PairFault;
 use crate::capturing::{Capture, Capturing, list_captures};
-use crate::lanes::{LANES, block_end};
+use crate::lanes::{LANES, Lane, block_end};
 use crate::pair::{captured_sums, joined_pair};
 use crate::walk::Walk;
 use cts_base::Listed;
@@ -71,7 +71,10 @@ fn push_block(
     list_captures(&mut capturing.captures, walk, circuit, registers)?;
     let captures = capturing.captures.as_slice();
     for from in first..end {
-        push_pairs_from(pairs, walk, captures, circuit, from - first, from as u32)?;
+        let lane = Lane {
+            number: from - first,
+        };
+        push_pairs_from(pairs, walk, captures, circuit, lane, from as u32)?;
     }
     Ok(())
 }
@@ -100,24 +103,23 @@ fn push_pairs_from(
     walk: &Walk,
     captures: &[Capture],
     circuit: &Circuit,
-    lane: usize,
+    lane: Lane,
     from: u32,
 ) -> Result<(), PairFault>
-    requires lane { lane < 16 }
     requires registers { AreAllReached circuit.now from (registers_of captures.now) }
     requires captures { All (IsCapture circuit.now walk.now) captures.now }
     requires few { vec_len pairs.old ≤ pair_limit }
     ensures few { OnOk result (vec_len pairs.new ≤ pair_limit) }
-    ensures listed { OnOk result ((tech : Tech) → HasReach circuit.now tech from lane walk.now
+    ensures listed { OnOk result ((tech : Tech) → HasReach circuit.now tech from lane.number walk.now
         → ListsPairsBefore circuit.now tech from 0 pairs.old.items
         → ListsPairsBefore circuit.now tech (from + 1) 0 pairs.new.items) }
     ensures many { IfErr result (λ fault. (tech : Tech)
-        → HasReach circuit.now tech from lane walk.now
+        → HasReach circuit.now tech from lane.number walk.now
         → ListsPairsBefore circuit.now tech from 0 pairs.old.items
         → ShowsTooMany circuit.now fault) }
 {
     for capture in captures {
-        if !capture.lanes[lane] {
+        if !capture.lanes[lane.number] {
             continue;
         }
         push_found(pairs, walk, circuit, lane, from, capture)?;
@@ -131,20 +133,19 @@ fn push_found(
     pairs: &mut Vec<PairDelay>,
     walk: &Walk,
     circuit: &Circuit,
-    lane: usize,
+    lane: Lane,
     from: u32,
     capture: &Capture,
 ) -> Result<(), PairFault>
-    requires lane { lane < 16 }
     requires to { capture.now.register < length circuit.now.registers }
     requires capture { IsCapture circuit.now walk.now capture.now }
     requires few { vec_len pairs.old ≤ pair_limit }
     ensures few { OnOk result (vec_len pairs.new ≤ pair_limit) }
-    ensures listed { OnOk result ((tech : Tech) → HasReach circuit.now tech from lane walk.now
+    ensures listed { OnOk result ((tech : Tech) → HasReach circuit.now tech from lane.number walk.now
         → ListsPairsBefore circuit.now tech from capture.now.register pairs.old.items
         → ListsPairsBefore circuit.now tech from (capture.now.register + 1) pairs.new.items) }
     ensures many { IfErr result (λ fault. (tech : Tech)
-        → HasReach circuit.now tech from lane walk.now
+        → HasReach circuit.now tech from lane.number walk.now
         → ListsPairsBefore circuit.now tech from capture.now.register pairs.old.items
         → ShowsTooMany circuit.now fault) }
 {

@@ -4,6 +4,7 @@ use crate::PairFault;
 use crate::between::walked_delays;
 use crate::cycle_paths::paths_within;
 use crate::extreme_path::path_back;
+use crate::lanes::Lane;
 use crate::pairs::walked_pairs;
 use crate::walk::Walk;
 use cts_base::{Listed, NoMemory};
@@ -121,7 +122,14 @@ impl<'a> Paths<'a> {
     {
         self.walk
             .walk_between(self.circuit, self.tech, &[(from, to)]);
-        path_back(&self.walk, alloc, self.circuit, 0, to, greatest)
+        path_back(
+            &self.walk,
+            alloc,
+            self.circuit,
+            Lane { number: 0 },
+            to,
+            greatest,
+        )
     }
 
     /// For each of some constraints a path that gives its weight: of a setup constraint one with

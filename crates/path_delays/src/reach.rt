@@ -1,6 +1,7 @@
 ghost use Rattle.std.specs.Prelude.{◌≡◌, ◌<◌, ◌*◌, ◌^◌, Some, IfOk, IsSome, if◌then◌else◌, length};
 
 use crate::lane_table::LaneTable;
+use crate::lanes::Lane;
 use crate::network::Network;
 use crate::number_set::NumberSet;
 use crate::sums::Sums;
@@ -59,9 +60,8 @@ impl Reach {
     }
 
     /// The sums to a signal in a lane, if it is reached there.
-    pub(crate) fn sums_at(&self, lane: usize, signal: u32) -> Option<Sums>
-        requires { lane < 16 }
-        ensures { result ≡ sums_at self.now lane signal }
+    pub(crate) fn sums_at(&self, lane: Lane, signal: u32) -> Option<Sums>
+        ensures { result ≡ sums_at self.now lane.number signal }
     {
         if !self.reached.contains(signal) {
             return None;
@@ -70,14 +70,13 @@ impl Reach {
     }
 
     /// Reaches a signal in a lane, and hands its sums to its readers.
-    pub(crate) fn start(&mut self, network: &Network, lane: usize, signal: u32, sums: Sums)
+    pub(crate) fn start(&mut self, network: &Network, lane: Lane, signal: u32, sums: Sums)
         requires room { HasReachRoom network.now self.old }
-        requires lane { lane < 16 }
         requires signal { signal < length network.now.ranks.items }
         requires sums { AreWithin (limit_of self.old) sums }
         requires small { (given : Lanes)
             → lanes_at self.old signal ≡ Some given → AllBounded (limit_of self.old) given }
-        ensures started { IsStarted network.now lane signal sums self.old self.new }
+        ensures started { IsStarted network.now lane.number signal sums self.old self.new }
         ensures room { HasReachRoom network.now self.new }
     {
         self.mark(lane, signal, sums);
@@ -121,12 +120,11 @@ impl Reach {
     }
 
     // Reaches a signal in a lane.
-    fn mark(&mut self, lane: usize, signal: u32, sums: Sums)
-        requires lane { lane < 16 }
+    fn mark(&mut self, lane: Lane, signal: u32, sums: Sums)
         requires signal { signal < length (rows_of self.old.lanes) }
         requires reached { signal < 64 * length self.old.reached.words.items }
         requires sums { AreWithin (limit_of self.old) sums }
-        ensures { IsMarked lane signal sums self.old self.new }
+        ensures { IsMarked lane.number signal sums self.old self.new }
     {
         self.open(signal);
         self.lanes.join(signal as usize, lane, sums);

@@ -3,6 +3,7 @@ ghost use Rattle.path_delays.specs.declared.lanes.Lanes.{Lanes};
 ghost use Rattle.path_delays.specs.LaneParts.{AllBounded, lane_of};
 ghost use Rattle.path_delays.specs.SumParts.{AreWithin, merged_sums, no_sums, some_sums, sums_through};
 
+use crate::lanes::Lane;
 use crate::sums::Sums;
 
 /// The sums to a signal from several registers, in a lane each.
@@ -18,9 +19,8 @@ pub(crate) trait Row: Copy {
         ensures { (lane : ℕ) → lane < 16 → lane_of (wide result) lane ≡ no_sums };
 
     /// The sums in a lane, if there are any.
-    fn in_lane(&self, lane: usize) -> Option<Sums>
-        requires { lane < 16 }
-        ensures { result ≡ some_sums (lane_of (wide self.now) lane) };
+    fn in_lane(&self, lane: Lane) -> Option<Sums>
+        ensures { result ≡ some_sums (lane_of (wide self.now) lane.number) };
 
     /// False in lanes that have no sums.
     fn filled(&self) -> [bool; 16]
@@ -28,10 +28,9 @@ pub(crate) trait Row: Copy {
             → some_sums (lane_of (wide self.now) lane) ≡ None };
 
     /// In one lane the least and the greatest of both.
-    fn join(&mut self, lane: usize, sums: Sums)
-        requires lane { lane < 16 }
-        requires sums { AreWithin limit sums }
-        ensures { (other : ℕ) → other < 16 → lane_of (wide self.new) other ≡ (if other == lane
+    fn join(&mut self, lane: Lane, sums: Sums)
+        requires { AreWithin limit sums }
+        ensures { (other : ℕ) → other < 16 → lane_of (wide self.new) other ≡ (if other == lane.number
             then merged_sums (lane_of (wide self.old) other) sums
             else lane_of (wide self.old) other) };
 

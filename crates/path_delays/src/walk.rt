@@ -1,6 +1,6 @@
 ghost use Rattle.std.specs.Prelude.{◌≡◌, ◌<◌, ◌≤◌, ◌+◌, ℕ, false, None, All, IfOk, IsTrue, length, slice_index_or};
 
-use crate::lanes::LANES;
+use crate::lanes::{LANES, Lane};
 use crate::launching::{launched, start_sums};
 use crate::network::Network;
 use crate::number_set::NumberSet;
@@ -84,9 +84,8 @@ impl Walk {
     }
 
     /// The sums to a signal from the register in a lane, `None` where that doesn't reach it.
-    pub(crate) fn sums(&self, lane: usize, signal: u32) -> Option<Sums>
-        requires { lane < 16 }
-        ensures { result ≡ sums_to self.now lane signal }
+    pub(crate) fn sums(&self, lane: Lane, signal: u32) -> Option<Sums>
+        ensures { result ≡ sums_to self.now lane.number signal }
     {
         self.reach.sums_at(lane, signal)
     }
@@ -100,10 +99,9 @@ impl Walk {
 
     /// The sums to a signal that some register reaches, from the one in a lane, `None` where that
     /// one doesn't reach it.
-    pub(crate) fn held_sums(&self, lane: usize, signal: u32) -> Option<Sums>
-        requires lane { lane < 16 }
-        requires held { IsTrue (has_number self.now.reach.reached.words.items signal) }
-        ensures { result ≡ sums_to self.now lane signal }
+    pub(crate) fn held_sums(&self, lane: Lane, signal: u32) -> Option<Sums>
+        requires { IsTrue (has_number self.now.reach.reached.words.items signal) }
+        ensures { result ≡ sums_to self.now lane.number signal }
     {
         self.reach.lanes.sums(signal as usize, lane)
     }
@@ -191,7 +189,7 @@ impl Reach {
         let sums = start_sums(tech);
         let from = registers[lane] as usize;
         for signal in launched(circuit, network.inputs.as_slice(), from) {
-            self.start(network, lane, *signal, sums);
+            self.start(network, Lane { number: lane }, *signal, sums);
         }
     }
 }

@@ -52,8 +52,8 @@ loop-capture-preserved-then-not-capture-lane c =
       λ tech reach listed.
           rw same
           (pair_next c.args.circuit.now tech c.args.from capture.register pairs pairs None
-          (missed_path c.args.circuit.now tech c.args.from c.args.lane c.args.walk.now capture
-          reach (c.requires.captures i no_capture c.loop-capture-test.true) c.requires.lane
+          (missed_path c.args.circuit.now tech c.args.from c.args.lane.number c.args.walk.now capture
+          reach (c.requires.captures i no_capture c.loop-capture-test.true) c.args.lane.low
           c.if-not-capture-lane.true) (sym (append-nil pairs)) (rw same at
           (passed_here c.requires.registers c.loop-capture.invariant.1 tech pairs
           (c.loop-capture.invariant.2 tech reach listed) inside))),

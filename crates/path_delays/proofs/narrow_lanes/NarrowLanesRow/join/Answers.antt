@@ -6,12 +6,12 @@ use Rattle.path_delays.proofs.narrow_lanes.NarrowLanesRow.join.Goals as goal
 pub returns : goal.returns
 returns c other low =
     let joined : NarrowLanes = record {
-      least = set c.args.self.now.least c.args.lane c.lesser.result;
-      greatest = set c.args.self.now.greatest c.args.lane c.greater.result;
+      least = set c.args.self.now.least c.args.lane.number c.lesser.result;
+      greatest = set c.args.self.now.greatest c.args.lane.number c.greater.result;
     } in
     rw (lane_widened c.args.self.now other low, lane_widened joined other low)
-    (elim (cases_eq other c.args.lane) [
-      | inl same ↦ rw (eq-eqb other c.args.lane same) (narrow_joined c.args.self.now joined other
-          c.args.sums c.requires.sums (search rules) (search rules))
-      | inr differs ↦ rw (ne_eqb other c.args.lane differs) (search rules)
+    (elim (cases_eq other c.args.lane.number) [
+      | inl same ↦ rw (eq-eqb other c.args.lane.number same) (narrow_joined c.args.self.now joined other
+          c.args.sums c.requires (search rules) (search rules))
+      | inr differs ↦ rw (ne_eqb other c.args.lane.number differs) (search rules)
     ])

@@ -3,5 +3,5 @@ use Rattle.path_delays.proofs.WalkStarts.{marked_bounded}
 use Rattle.path_delays.proofs.reach.Reach.start.Goals as goal
 
 pub hand_on-requires-clause-small : goal.hand_on-requires-clause-small
-hand_on-requires-clause-small c = marked_bounded c.args.self.now c.mark.new.self c.args.lane
+hand_on-requires-clause-small c = marked_bounded c.args.self.now c.mark.new.self c.args.lane.number
     c.args.signal c.args.sums c.requires.sums c.mark.ensures c.requires.small
