@@ -1,9 +1,9 @@
 -- One gate more.
 use Rattle.path_delays.proofs.Vocabulary.{◌*◌, ◌^◌, get_or, subst, arith, IsWindowBelow, window_limit}
 use Rattle.path_delays.proofs.NetworkLemmas.{few_gates}
-use Rattle.path_delays.proofs.WindowLemmas.{below_wider, kept_ticks}
+use Rattle.path_delays.proofs.WindowLemmas.{below_wider}
 use Rattle.path_delays.proofs.SweepLemmas.{passed_none, passed_next, next_within, next_read}
-use Rattle.path_delays.proofs.sweep.pass_gates.Goals as goal
+use Rattle.path_delays.proofs.sweep.Sweep.pass_gates.Goals as goal
 
 pub loop-gate-init : goal.loop-gate-init
 loop-gate-init c = grind (arith, passed_none)
@@ -13,7 +13,7 @@ bounds-as_slice-gate c = grind (arith, next_within)
 
 pub gate_window-window-requires-clause-gate : goal.gate_window-window-requires-clause-gate
 gate_window-window-requires-clause-gate c =
-    (next_read c.args.circuit.now c.args.levels.now c.gates-gate-items.result.now
+    (next_read c.args.self.now.circuit.now c.args.levels.now c.gates-gate-items.result.now
     c.as_slice.result.now c.loop-gate.gate-index c.index-as_slice-gate.result c.requires.levels
     c.gates-gate-items.ensures c.as_slice.ensures c.loop-gate-test.true
     c.index-as_slice-gate.is).is_one
@@ -21,14 +21,14 @@ gate_window-window-requires-clause-gate c =
 pub gate_window-window-requires-clause-valid_inputs :
     goal.gate_window-window-requires-clause-valid_inputs
 gate_window-window-requires-clause-valid_inputs c =
-    (next_read c.args.circuit.now c.args.levels.now c.gates-gate-items.result.now
+    (next_read c.args.self.now.circuit.now c.args.levels.now c.gates-gate-items.result.now
     c.as_slice.result.now c.loop-gate.gate-index c.index-as_slice-gate.result c.requires.levels
     c.gates-gate-items.ensures c.as_slice.ensures c.loop-gate-test.true
     c.index-as_slice-gate.is).valid_inputs
 
 pub gate_window-window-requires-clause-reads : goal.gate_window-window-requires-clause-reads
 gate_window-window-requires-clause-reads c k d within =
-    let read = next_read c.args.circuit.now c.args.levels.now c.gates-gate-items.result.now
+    let read = next_read c.args.self.now.circuit.now c.args.levels.now c.gates-gate-items.result.now
     c.as_slice.result.now c.loop-gate.gate-index c.index-as_slice-gate.result c.requires.levels
     c.gates-gate-items.ensures c.as_slice.ensures c.loop-gate-test.true c.index-as_slice-gate.is in
     rw c.as_slice-in-loop-gate.ensures.value
@@ -38,7 +38,7 @@ pub gate_window-window-requires-clause-small : goal.gate_window-window-requires-
 gate_window-window-requires-clause-small c signal window here =
     let low = rw c.gates-gate-items.ensures at c.loop-gate-test.true in
     below_wider (window_limit c.loop-gate.gate-index) (2 * 10 ^ 19) window
-    (omega (arith, low, few_gates c.args.circuit.now c.args.levels.now c.requires.levels))
+    (omega (arith, low, few_gates c.args.self.now.circuit.now c.args.levels.now c.requires.levels))
     (c.loop-gate.invariant.small signal window (rw c.as_slice-in-loop-gate.ensures.value at here))
 
 pub put-requires : goal.put-requires
@@ -48,17 +48,13 @@ pub loop-gate-preserved : goal.loop-gate-preserved
 loop-gate-preserved c =
     let place = c.loop-gate.gate-index in
     let gate = get_or c.gates-gate-items.result.now place 0 in
-    let read = next_read c.args.circuit.now c.args.levels.now c.gates-gate-items.result.now
+    let read = next_read c.args.self.now.circuit.now c.args.levels.now c.gates-gate-items.result.now
     c.as_slice.result.now c.loop-gate.gate-index c.index-as_slice-gate.result c.requires.levels
     c.gates-gate-items.ensures c.as_slice.ensures c.loop-gate-test.true c.index-as_slice-gate.is in
-    passed_next c.args.circuit.now c.args.tech.now c.args.schedule.now gate
+    passed_next c.args.self.now.circuit.now c.args.self.now.tech.now c.args.self.now.schedule.now gate
     c.index-as_slice-gate.result read.here read.is_one c.args.levels.now place c.requires.levels
     read.stands c.loop-gate.windows.items c.put.new.windows.items c.gate_window-window.result
-    (rw (
-      c.as_slice-in-loop-gate.ensures.value,
-      kept_ticks c.args.schedule.now.den c.requires.schedule.den (omega arith),
-    ) at
-    c.gate_window-window.ensures.suffix)
+    (rw c.as_slice-in-loop-gate.ensures.value at c.gate_window-window.ensures.suffix)
     (λ window same. subst (λ n. IsWindowBelow n window) (omega arith)
     (c.gate_window-window.ensures.small (window_limit place) window
     (rw c.as_slice-in-loop-gate.ensures.value c.loop-gate.invariant.small) same))
