@@ -1,5 +1,5 @@
 -- Sums handed to one gate after the other.
-use Rattle.path_delays.proofs.Vocabulary.{◌≡◌, ◌≢◌, ◌<◌, ℕ, true, false, length, Some, List, [], ◌∷◌, ◌++◌, refl, sym, subst, arith, IsSome, eq-eqb, ne_eqb, get_or, get_or_from_slice_get, same_Some, slice_get-get_or, Lanes, Network, Reach, NumberSet, Sums, no_sums, sums_through, has_number, IsInserted, AllBounded, lane_of, CanHand, GetsSums, IsJoined, IsMerged, IsPassed, row_at, rows_of, table_limit, limit_of, delay_at, lane_at, lanes_at, rank_at, HasReachRoom, IsSameRoom, IsHanded, IsMarked, IsOpened, AreHanded}
+use Rattle.path_delays.proofs.Vocabulary.{◌≡◌, ◌≢◌, ◌<◌, ℕ, true, false, length, Some, List, [], ◌∷◌, ◌++◌, refl, sym, subst, arith, IsSome, eq-eqb, ne_eqb, get_or, get_or_from_slice_get, same_Some, slice_get-get_or, Lanes, Network, Reach, NumberSet, Sums, no_sums, sums_through, has_number, IsInserted, AllBounded, lane_of, CanHand, GetsSums, IsJoined, IsMerged, IsPassed, row_at, rows_of, table_limit, limit_of, delay_at, lane_at, lanes_at, rank_at, CanHandOn, HasReachRoom, IsSameRoom, IsHanded, IsMarked, IsOpened, AreHanded}
 use Rattle.path_delays.specs.declared.lane_table.LaneTable.{LaneTable}
 use Rattle.path_delays.proofs.LaneLemmas.{some_is}
 
@@ -24,19 +24,16 @@ row_given reach signal given here = grind (arith, get_or, get_or_from_slice_get)
 
 -- its sums can be handed to a gate
 pub CanHand-there : (network : Network) (reach : Reach) (from gate : ℕ) (delay : Sums)
-    → HasReachRoom network reach → from < length network.ranks.items
-    → gate < length network.ranks.items → IsSome (lanes_at reach from)
-    → ((given : Lanes) → lanes_at reach from ≡ Some given → AllBounded (limit_of reach) given)
+    → CanHandOn network from reach → gate < length network.ranks.items
     → delay ≡ get_or network.delays.items gate delay
     → CanHand (limit_of reach) (rows_of reach.lanes) from gate delay
-CanHand-there network reach from gate delay room known reader reached small read =
-    let given = some_is (lanes_at reach from) reached in record {
-      known = omega (arith, room.lanes);
-      reader = omega (arith, room.lanes);
-      sums =
-          subst (AllBounded (limit_of reach)) (sym (row_given reach from given.0 given.1))
-          (small given.0 given.1);
-      small = rw read (room.small_delays gate delay (omega (arith, room.delays)));
+CanHand-there network reach from gate delay can reader read =
+    let given = some_is (lanes_at reach from) can.reached in record {
+      known = omega (arith, can.inside, can.room.lanes);
+      reader = omega (arith, can.room.lanes);
+      sums = subst (AllBounded (limit_of reach)) (sym (row_given reach from given.0 given.1))
+          (can.small given.0 given.1);
+      small = rw read (can.room.small_delays gate delay (omega (arith, can.room.delays)));
     }
 
 -- what stands in a lane there

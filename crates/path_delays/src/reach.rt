@@ -1,4 +1,4 @@
-ghost use Rattle.std.specs.Prelude.{◌≡◌, ◌<◌, ◌*◌, ◌^◌, Some, IfOk, IsSome, if◌then◌else◌, length};
+ghost use Rattle.std.specs.Prelude.{◌≡◌, ◌<◌, ◌*◌, ◌^◌, Some, IfOk, if◌then◌else◌, length};
 
 use crate::lane_table::LaneTable;
 use crate::lanes::Lane;
@@ -25,7 +25,7 @@ impl Reach {
     ghost use Rattle.path_delays.specs.LaneParts.{AllBounded};
     ghost use Rattle.path_delays.specs.LaneTables.{rows_of};
     ghost use Rattle.path_delays.specs.NarrowParts.{narrow_limit};
-    ghost use Rattle.path_delays.specs.Handing.{HasReachRoom, IsCleared, IsHanded, IsHandedOn, IsMarked, IsOpened, IsSameRoom, IsStarted, lanes_at, limit_of, sums_at};
+    ghost use Rattle.path_delays.specs.Handing.{CanHandOn, HasReachRoom, HasRoomAt, IsCleared, IsHanded, IsHandedOn, IsMarked, IsOpened, IsSameRoom, IsStarted, lanes_at, limit_of, sums_at};
 
     /// Nothing reached yet, with room for so many signals and gates, of a short network or another.
     pub(crate) fn new(
@@ -85,11 +85,7 @@ impl Reach {
 
     /// Hands the sums to a signal to each gate that reads it.
     pub(crate) fn hand_on(&mut self, network: &Network, signal: u32)
-        requires room { HasReachRoom network.now self.old }
-        requires signal { signal < length network.now.ranks.items }
-        requires reached { IsSome (lanes_at self.old signal) }
-        requires small { (given : Lanes)
-            → lanes_at self.old signal ≡ Some given → AllBounded (limit_of self.old) given }
+        requires { CanHandOn network.now signal self.old }
         ensures on { IsHandedOn network.now signal self.old self.new }
         ensures room { HasReachRoom network.now self.new }
     {
@@ -100,12 +96,8 @@ impl Reach {
 
     // Hands the sums to a signal to a gate: it keeps the least and the greatest of those that come.
     fn hand_to(&mut self, network: &Network, signal: u32, gate: u32)
-        requires room { HasReachRoom network.now self.old }
-        requires signal { signal < length network.now.ranks.items }
+        requires signal { CanHandOn network.now signal self.old }
         requires gate { gate < length network.now.ranks.items }
-        requires reached { IsSome (lanes_at self.old signal) }
-        requires small { (given : Lanes)
-            → lanes_at self.old signal ≡ Some given → AllBounded (limit_of self.old) given }
         ensures { (given : Lanes) → lanes_at self.old signal ≡ Some given
             → IsHanded network.now given gate self.old self.new }
     {
@@ -121,8 +113,7 @@ impl Reach {
 
     // Reaches a signal in a lane.
     fn mark(&mut self, lane: Lane, signal: u32, sums: Sums)
-        requires signal { signal < length (rows_of self.old.lanes) }
-        requires reached { signal < 64 * length self.old.reached.words.items }
+        requires room { HasRoomAt signal self.old }
         requires sums { AreWithin (limit_of self.old) sums }
         ensures { IsMarked lane.number signal sums self.old self.new }
     {
@@ -132,8 +123,7 @@ impl Reach {
 
     // Reaches a signal, with no sums where it wasn't reached.
     fn open(&mut self, signal: u32)
-        requires signal { signal < length (rows_of self.old.lanes) }
-        requires reached { signal < 64 * length self.old.reached.words.items }
+        requires { HasRoomAt signal self.old }
         ensures { IsOpened signal self.old self.new }
     {
         if !self.reached.contains(signal) {

@@ -5,22 +5,20 @@ use Rattle.path_delays.proofs.reach.Reach.hand_to.Goals as goal
 
 pub merge-requires : goal.merge-requires
 merge-requires c = CanHand-there c.args.network.now c.args.self.now c.args.signal c.args.gate
-    c.index-delay.result.now c.requires.room c.requires.signal c.requires.gate c.requires.reached
-    c.requires.small c.index-delay.ensures
+    c.index-delay.result.now c.requires.signal c.requires.gate c.index-delay.ensures
 
 pub pass-requires : goal.pass-requires
 pass-requires c = CanHand-there c.args.network.now c.args.self.now c.args.signal c.args.gate
-    c.index-delay.result.now c.requires.room c.requires.signal c.requires.gate c.requires.reached
-    c.requires.small c.index-delay.ensures
+    c.index-delay.result.now c.requires.signal c.requires.gate c.index-delay.ensures
 
 pub returns-then-contains : goal.returns-then-contains
 returns-then-contains c given here = IsHanded-merged c.args.network.now c.args.self.now
     c.args.signal c.args.gate given c.index-delay.result.now here
     (c.index-delay.ensures ∙ get_or_default c.args.network.now.delays.items c.args.gate
     c.index-delay.result.now (record { least = pos 0; greatest = pos 0 })
-    (omega (arith, c.requires.gate, c.requires.room.delays)))
+    (omega (arith, c.requires.gate, c.requires.signal.room.delays)))
     c.merge.new.self (sym c.if-contains.ensures)
-    (omega (arith, c.requires.gate, c.requires.room.lanes)) c.merge.ensures.limit
+    (omega (arith, c.requires.gate, c.requires.signal.room.lanes)) c.merge.ensures.limit
     c.merge.ensures.sums
 
 pub returns-else-contains : goal.returns-else-contains
@@ -28,7 +26,7 @@ returns-else-contains c given here = IsHanded-passed c.args.network.now c.args.s
     c.args.signal c.args.gate given c.index-delay.result.now here
     (c.index-delay.ensures ∙ get_or_default c.args.network.now.delays.items c.args.gate
     c.index-delay.result.now (record { least = pos 0; greatest = pos 0 })
-    (omega (arith, c.requires.gate, c.requires.room.delays)))
+    (omega (arith, c.requires.gate, c.requires.signal.room.delays)))
     c.insert.new.self c.insert-else-contains.new.self c.pass.new.self (sym c.if-contains.ensures)
     c.insert.ensures
     (subst (λ rank. IsInserted rank c.args.self.now.waiting.words.items

@@ -1,5 +1,5 @@
 -- The gate of the lowest rank that waits is taken, and hands on its sums.
-use Rattle.path_delays.proofs.Vocabulary.{◌≡◌, ◌+◌, ◌∙◌, ℕ, length, refl, sym, arith, true≢false, slice_get_within, Reach, lanes_at, rank_at, LanesBelow}
+use Rattle.path_delays.proofs.Vocabulary.{◌≡◌, ◌+◌, ◌∙◌, ℕ, length, refl, sym, arith, rules, true≢false, slice_get_within, Reach, lanes_at, rank_at, LanesBelow}
 use Rattle.path_delays.proofs.Hands.{HasReachRoom-same}
 use Rattle.path_delays.proofs.LaneLemmas.{some_is}
 use Rattle.path_delays.proofs.WalkEnds.{reach_shown}
@@ -9,23 +9,17 @@ use Rattle.path_delays.proofs.reach.Reach.reach_up_to.Goals as goal
 pub index-requires : goal.index-requires
 index-requires c = grind (arith, next_within)
 
-pub hand_on-requires-clause-signal : goal.hand_on-requires-clause-signal
-hand_on-requires-clause-signal c =
+pub hand_on-requires : goal.hand_on-requires
+hand_on-requires c =
     let due = c.loop-next.invariant.spread.due c.in-Some.next c.in-Some.ensures.some.held in
     let next = next_gate c.args.circuit.now c.args.tech.now c.args.network.now c.requires.network
     c.loop-next.self c.loop-next.rank c.in-Some.next c.index.result.now
-    c.loop-next.invariant.counted due c.index.ensures in
-    omega (arith, next.inside, c.requires.network.ranks.covers)
-
-pub hand_on-requires-clause-reached : goal.hand_on-requires-clause-reached
-hand_on-requires-clause-reached c =
-    let due = c.loop-next.invariant.spread.due c.in-Some.next c.in-Some.ensures.some.held in
-    (next_gate c.args.circuit.now c.args.tech.now c.args.network.now c.requires.network
-    c.loop-next.self c.loop-next.rank c.in-Some.next c.index.result.now
-    c.loop-next.invariant.counted due c.index.ensures).reached
-
-pub hand_on-requires-clause-small : goal.hand_on-requires-clause-small
-hand_on-requires-clause-small c = grind (arith, all_bounded)
+    c.loop-next.invariant.counted due c.index.ensures in record {
+      room = search rules;
+      inside = omega (arith, next.inside, c.requires.network.ranks.covers);
+      reached = next.reached;
+      small = λ given here. grind (arith, all_bounded);
+    }
 
 pub loop-next-smaller : goal.loop-next-smaller
 loop-next-smaller c = grind (arith, next_within)
