@@ -10,7 +10,7 @@ use crate::PairFault;
 use crate::capturing::{Capture, Capturing, list_captures};
 use crate::lanes::{LANES, Lane, block_end};
 use crate::pair::{captured_sums, joined_pair};
-use crate::walk::Walk;
+use crate::walk::{Launches, Walk};
 use cts_base::Listed;
 use cts_model::{Circuit, PairDelay, Tech};
 use std::alloc::Global;
@@ -93,7 +93,11 @@ fn walk_block(walk: &mut Walk, circuit: &Circuit, tech: &Tech, first: usize, end
     for from in first..end {
         registers[from - first] = from as u32;
     }
-    walk.walk_from(circuit, tech, &registers[..end - first]);
+    walk.walk_from(&Launches {
+        circuit,
+        tech,
+        registers: &registers[..end - first],
+    });
 }
 
 // Appends the pairs of the register that launches, which is walked from in a lane, with what the

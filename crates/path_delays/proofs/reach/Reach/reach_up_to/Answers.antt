@@ -12,7 +12,7 @@ index-requires c = grind (arith, next_within)
 pub hand_on-requires : goal.hand_on-requires
 hand_on-requires c =
     let due = c.loop-next.invariant.spread.due c.in-Some.next c.in-Some.ensures.some.held in
-    let next = next_gate c.args.circuit.now c.args.tech.now c.args.network.now c.requires.network
+    let next = next_gate c.args.from.now.circuit.now c.args.from.now.tech.now c.args.network.now c.requires.network
     c.loop-next.self c.loop-next.rank c.in-Some.next c.index.result.now
     c.loop-next.invariant.counted due c.index.ensures in record {
       room = search rules;
@@ -26,10 +26,10 @@ loop-next-smaller c = grind (arith, next_within)
 
 pub loop-next-preserved : goal.loop-next-preserved
 loop-next-preserved c =
-    let circuit = c.args.circuit.now in
-    let tech = c.args.tech.now in
+    let circuit = c.args.from.now.circuit.now in
+    let tech = c.args.from.now.tech.now in
     let network = c.args.network.now in
-    let registers = c.args.registers.now in
+    let registers = c.args.from.now.registers.now in
     let is = c.requires.network in
     let gate = c.index.result.now in
     let due = c.loop-next.invariant.spread.due c.in-Some.next c.in-Some.ensures.some.held in
@@ -56,17 +56,17 @@ loop-next-preserved c =
 
 pub returns-then-next-top-clause-reach : goal.returns-then-next-top-clause-reach
 returns-then-next-top-clause-reach c lane from signal here below =
-    let registers = c.args.registers.now in
+    let registers = c.args.from.now.registers.now in
     let within = slice_get_within registers lane from here in
-    reach_shown c.args.circuit.now c.args.tech.now registers from lane here c.args.network.now
+    reach_shown c.args.from.now.circuit.now c.args.from.now.tech.now registers from lane here c.args.network.now
     c.requires.network c.loop-next.self c.loop-next.rank within
-    (omega (arith, within, c.requires.few)) c.loop-next.invariant.spread c.args.top
+    (omega (arith, within, c.args.from.now.few)) c.loop-next.invariant.spread c.args.top
     (λ other waits. omega (arith, c.if-next-top.true, c.in-Some.ensures.some.lowest other waits))
     signal below
 
 pub returns : goal.returns
 returns c =
-    let registers = c.args.registers.now in
+    let registers = c.args.from.now.registers.now in
     let taken : Reach = record {
       reached = c.loop-next.self.reached;
       lanes = c.loop-next.self.lanes;
@@ -75,9 +75,9 @@ returns c =
     record {
       reach = λ lane from signal here below.
           let within = slice_get_within registers lane from here in
-          reach_shown c.args.circuit.now c.args.tech.now registers from lane here
+          reach_shown c.args.from.now.circuit.now c.args.from.now.tech.now registers from lane here
           c.args.network.now c.requires.network c.loop-next.self c.loop-next.rank within
-          (omega (arith, within, c.requires.few)) c.loop-next.invariant.spread c.args.top
+          (omega (arith, within, c.args.from.now.few)) c.loop-next.invariant.spread c.args.top
           (λ other waits. absurd (true≢false (sym waits ∙ c.in_default.ensures.none other))) signal
           below;
       room = HasReachRoom-same c.args.network.now c.loop-next.self taken
