@@ -18,6 +18,13 @@ use std::alloc::Global;
 /// How many joined pairs of registers a circuit may have.
 const MAX_PAIRS: usize = 1_048_576;
 
+/// The pairs that are listed so far.
+#[derive(Drop)]
+struct PairList {
+    list: Vec<PairDelay>,
+    ghost few: { vec_len list ≤ pair_limit },
+}
+
 /// The delays of all joined pairs, walked to from sixteen registers at a time in the same room.
 pub(crate) fn walked_pairs(
     walk: &mut Walk,
@@ -32,19 +39,21 @@ pub(crate) fn walked_pairs(
     ensures room { IsRoomFor circuit.now tech.now walk.new }
 {
     let mut capturing = Capturing::new(alloc, circuit)?;
-    let mut pairs = Vec::new(alloc);
+    let mut pairs = PairList {
+        list: Vec::new(alloc),
+    };
     let mut first = 0;
     while first < circuit.registers.len() {
         let end = block_end(first, circuit.registers.len());
         push_block(&mut pairs, walk, &mut capturing, circuit, tech, first, end)?;
         first = end;
     }
-    Ok(Listed::from_vec(pairs))
+    Ok(Listed::from_vec(pairs.list))
 }
 
 // Appends the pairs of up to sixteen registers that launch, from one number up to another.
 fn push_block(
-    pairs: &mut Vec<PairDelay>,
+    pairs: &mut PairList,
     walk: &mut Walk,
     capturing: &mut Capturing,
     circuit: &Circuit,
@@ -57,12 +66,10 @@ fn push_block(
     requires within { end ≤ length circuit.now.registers }
     requires room { IsRoomFor circuit.now tech.now walk.old }
     requires capturing { IsCapturingOf circuit.now capturing.old }
-    requires listed { ListsPairsBefore circuit.now tech.now first 0 pairs.old.items }
-    requires few { vec_len pairs.old ≤ pair_limit }
+    requires listed { ListsPairsBefore circuit.now tech.now first 0 pairs.old.list.items }
     ensures room { IsRoomFor circuit.now tech.now walk.new }
     ensures capturing { OnOk result (IsCapturingOf circuit.now capturing.new) }
-    ensures listed { OnOk result (ListsPairsBefore circuit.now tech.now end 0 pairs.new.items) }
-    ensures few { OnOk result (vec_len pairs.new ≤ pair_limit) }
+    ensures listed { OnOk result (ListsPairsBefore circuit.now tech.now end 0 pairs.new.list.items) }
     ensures many { IfErr result (ShowsTooMany circuit.now) }
 {
     walk_block(walk, circuit, tech, first, end);
@@ -103,7 +110,7 @@ fn walk_block(walk: &mut Walk, circuit: &Circuit, tech: &Tech, first: usize, end
 // Appends the pairs of the register that launches, which is walked from in a lane, with what the
 // walk found at the registers that it reaches.
 fn push_pairs_from(
-    pairs: &mut Vec<PairDelay>,
+    pairs: &mut PairList,
     walk: &Walk,
     captures: &[Capture],
     circuit: &Circuit,
@@ -112,14 +119,12 @@ fn push_pairs_from(
 ) -> Result<(), PairFault>
     requires registers { AreAllReached circuit.now from (registers_of captures.now) }
     requires captures { All (IsCapture circuit.now walk.now) captures.now }
-    requires few { vec_len pairs.old ≤ pair_limit }
-    ensures few { OnOk result (vec_len pairs.new ≤ pair_limit) }
     ensures listed { OnOk result ((tech : Tech) → HasReach circuit.now tech from lane.number walk.now
-        → ListsPairsBefore circuit.now tech from 0 pairs.old.items
-        → ListsPairsBefore circuit.now tech (from + 1) 0 pairs.new.items) }
+        → ListsPairsBefore circuit.now tech from 0 pairs.old.list.items
+        → ListsPairsBefore circuit.now tech (from + 1) 0 pairs.new.list.items) }
     ensures many { IfErr result (λ fault. (tech : Tech)
         → HasReach circuit.now tech from lane.number walk.now
-        → ListsPairsBefore circuit.now tech from 0 pairs.old.items
+        → ListsPairsBefore circuit.now tech from 0 pairs.old.list.items
         → ShowsTooMany circuit.now fault) }
 {
     for capture in captures {
@@ -134,7 +139,7 @@ fn push_pairs_from(
 // Appends the pair of the register in a lane and another one, of which a walk found this, if there
 // is one.
 fn push_found(
-    pairs: &mut Vec<PairDelay>,
+    pairs: &mut PairList,
     walk: &Walk,
     circuit: &Circuit,
     lane: Lane,
@@ -143,14 +148,12 @@ fn push_found(
 ) -> Result<(), PairFault>
     requires to { capture.now.register < length circuit.now.registers }
     requires capture { IsCapture circuit.now walk.now capture.now }
-    requires few { vec_len pairs.old ≤ pair_limit }
-    ensures few { OnOk result (vec_len pairs.new ≤ pair_limit) }
     ensures listed { OnOk result ((tech : Tech) → HasReach circuit.now tech from lane.number walk.now
-        → ListsPairsBefore circuit.now tech from capture.now.register pairs.old.items
-        → ListsPairsBefore circuit.now tech from (capture.now.register + 1) pairs.new.items) }
+        → ListsPairsBefore circuit.now tech from capture.now.register pairs.old.list.items
+        → ListsPairsBefore circuit.now tech from (capture.now.register + 1) pairs.new.list.items) }
     ensures many { IfErr result (λ fault. (tech : Tech)
         → HasReach circuit.now tech from lane.number walk.now
-        → ListsPairsBefore circuit.now tech from capture.now.register pairs.old.items
+        → ListsPairsBefore circuit.now tech from capture.now.register pairs.old.list.items
         → ShowsTooMany circuit.now fault) }
 {
     let to = capture.register;
@@ -167,17 +170,15 @@ fn push_found(
 }
 
 // Appends a pair, if there is one.
-fn push_joined(pairs: &mut Vec<PairDelay>, joined: Option<PairDelay>) -> Result<(), PairFault>
-    requires { vec_len pairs.old ≤ pair_limit }
-    ensures ok { OnOk result (pairs.new.items ≡ pairs.old.items ++ option_to_list joined) }
-    ensures few { OnOk result (vec_len pairs.new ≤ pair_limit) }
-    ensures many { IfErr result (MeetsLimit joined pairs.old.items) }
+fn push_joined(pairs: &mut PairList, joined: Option<PairDelay>) -> Result<(), PairFault>
+    ensures ok { OnOk result (pairs.new.list.items ≡ pairs.old.list.items ++ option_to_list joined) }
+    ensures many { IfErr result (MeetsLimit joined pairs.old.list.items) }
 {
     match joined {
         None => Ok(()),
-        Some(_) if pairs.len() >= MAX_PAIRS => Err(PairFault::TooManyPairs),
+        Some(_) if pairs.list.len() >= MAX_PAIRS => Err(PairFault::TooManyPairs),
         Some(pair) => {
-            pairs.push(pair)?;
+            pairs.list.push(pair)?;
             Ok(())
         }
     }

@@ -23,7 +23,6 @@ returns-in-Some c =
     (c.requires.capture.single signal c.in-Some.is).0 (λ other listed. reach.each other)
     (rw c.held_sums.ensures (extremes_single (sums_to walk lane) signal)) in
     record {
-      few = c.push_joined.ensures.few;
       listed = on_ok_weaker c.push_joined.result
           (λ is tech reach. pair_next circuit tech from to _ _ _ (joined tech reach) is)
           c.push_joined.ensures.ok;
@@ -45,7 +44,6 @@ returns-in-None c =
     (rw c.as_slice-captured.ensures (captured_is_fan_in circuit to c.register_signal.result.now
     c.register_signal.ensures)) (λ other listed. reach.each other) c.captured_sums.ensures in
     record {
-      few = c.push_joined-in-None.ensures.few;
       listed = on_ok_weaker c.push_joined-in-None.result
           (λ is tech reach. pair_next circuit tech from to _ _ _ (joined tech reach) is)
           c.push_joined-in-None.ensures.ok;
