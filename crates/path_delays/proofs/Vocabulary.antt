@@ -45,7 +45,7 @@ pub use Rattle.path_delays.specs.JoinedPairs.{IsJoinedBy, AreDelaysBetween, List
 pub use Rattle.path_delays.specs.LaneParts.{AllBounded, lane_of}
 pub use Rattle.path_delays.specs.LaneTables.{CanHand, GetsSums, IsJoined, IsMerged, IsPassed, lane_in, row_at, rows_of, table_limit}
 pub use Rattle.path_delays.specs.NarrowParts.{ArePassable, greatest_in, least_in, narrow_limit, wide_greatest, wide_lanes, wide_least}
-pub use Rattle.path_delays.specs.Networks.{gate_sums, weight_of, AreInputs, AreInputsBelow, AreRanks, IsNetworkOf, AreAllReads, all_reads_by, AreReaders, HasPlaceInOrder, ArePlaces, weight_at, IsLeftAfter, AreCapturedUpTo}
+pub use Rattle.path_delays.specs.Networks.{gate_sums, AreInputs, AreInputsBelow, AreRanks, IsNetworkOf, AreAllReads, all_reads_by, AreReaders, HasPlaceInOrder, ArePlaces, AreCapturedUpTo}
 pub use Rattle.path_delays.specs.NumberSets.{has_number, AreInserted, AreListed, IsLowestTaken, IsInserted, IsCommon, IsFirstFilled}
 pub use Rattle.path_delays.specs.Reaches.{IsChain, IsReach, AreExtreme}
 pub use Rattle.path_delays.specs.SumParts.{AreAround, IsAround, either_sums, joined_sums, merged_sums, sums_through, AreWithin, no_sums, AreBounded, AreMissing, delay_limit, some_sums}

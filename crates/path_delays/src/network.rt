@@ -70,8 +70,8 @@ impl Network {
         top
     }
 
-    /// Whether the greatest delays of all gates together, and a million ticks for the register, are
-    /// at most 2^29 - 1, so that lanes of 32 bits hold the sums along each path.
+    /// True only where the greatest delays of all gates together, and a million ticks for the
+    /// register, are at most 2^29 - 1, so that lanes of 32 bits hold the sums along each path.
     pub(crate) fn is_short(&self) -> bool
         requires { All (AreWithin delay_limit) self.now.delays.items }
         ensures { result ≡ true → 1000000 + sum_by most_of self.now.delays.items ≤ narrow_limit }
