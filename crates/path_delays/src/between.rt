@@ -1,6 +1,5 @@
 ghost use Rattle.std.specs.Prelude.{◌<◌, ◌≤◌, ◌++◌, ℕ, All, IfOk, List, OnOk, length};
-ghost use Rattle.path_delays.specs.WalkParts.{IsRoomFor};
-ghost use Rattle.path_delays.specs.JoinedPairs.{AreDelaysBetween};
+ghost use Rattle.path_delays.specs.Vocabulary.{IsRoomFor, AreDelaysBetween};
 
 use crate::lanes::{Lane, block_end};
 use crate::pair::{captured_sums, joined_pair};

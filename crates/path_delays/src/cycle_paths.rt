@@ -1,9 +1,5 @@
 ghost use Rattle.std.specs.Prelude.{◌≡◌, ◌<◌, ◌≤◌, All, IfOk, length};
-ghost use Rattle.cts_model.specs.declared.tech.Tech.{Tech};
-ghost use Rattle.cts_model.specs.timing.ConstraintPaths.{ArePathsWithin};
-ghost use Rattle.cts_model.specs.timing.Constraints.{IsConstraintOf};
-ghost use Rattle.path_delays.specs.CyclePaths.{FitsRoom, IsPathWithin, IsReachedAlong, AreReachedAlong, KeepsPaths, pair_of, path_signals};
-ghost use Rattle.path_delays.specs.WalkParts.{HasRanksOf, IsRoomFor};
+ghost use Rattle.path_delays.specs.Vocabulary.{Tech, ArePathsWithin, IsConstraintOf, FitsRoom, IsPathWithin, IsReachedAlong, AreReachedAlong, KeepsPaths, pair_of, path_signals, HasRanksOf, IsRoomFor};
 
 use crate::extreme_path::path_back;
 use crate::lanes::{LANES, Lane, block_end};

@@ -1,8 +1,5 @@
 ghost use Rattle.std.specs.Prelude.{◌≡◌, ◌<◌, ◌↔◌, ℕ, length, Contains, IfOk, IsTrue, IsSomeAnd};
-ghost use Rattle.cts_model.specs.declared.tech.Tech.{Tech};
-ghost use Rattle.cts_model.specs.netlist.Paths.{Reads};
-ghost use Rattle.path_delays.specs.WalkParts.{HasRanksOf, HasReachBetween};
-ghost use Rattle.path_delays.specs.ExtremePaths.{IsExtremeIfAny, IsFurthestIfAny, extreme_of};
+ghost use Rattle.path_delays.specs.Vocabulary.{Tech, Reads, HasRanksOf, HasReachBetween, IsExtremeIfAny, IsFurthestIfAny, extreme_of};
 
 use crate::lanes::Lane;
 use crate::pair::captured_sums;

@@ -1,8 +1,5 @@
 ghost use Rattle.std.specs.Prelude.{◌≡◌, ◌<◌, ℕ, false, None, IfOk, length, map, if◌then◌else◌, slice_index_or};
-ghost use Rattle.std.specs.Option.{option_and_then};
-ghost use Rattle.path_delays.specs.LaneTables.{CanHand, GetsSums, IsJoined, IsMerged, IsPassed, lane_in, rows_of, table_limit};
-ghost use Rattle.path_delays.specs.NarrowParts.{narrow_limit};
-ghost use Rattle.path_delays.specs.SumParts.{AreWithin, delay_limit, no_sums, some_sums};
+ghost use Rattle.path_delays.specs.Vocabulary.{option_and_then, CanHand, GetsSums, IsJoined, IsMerged, IsPassed, lane_in, rows_of, table_limit, narrow_limit, AreWithin, delay_limit, no_sums, some_sums};
 
 use crate::lanes::{Lane, Lanes};
 use crate::narrow_lanes::NarrowLanes;

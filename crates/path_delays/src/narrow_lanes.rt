@@ -1,6 +1,5 @@
 ghost use Rattle.std.specs.Prelude.{◌≡◌, pos, ◌+ℤ◌, ◌≤ℤ◌};
-ghost use Rattle.std.specs.Int.{int_min, int_max};
-ghost use Rattle.cts_model.specs.table.Tables.{IsWithin};
+ghost use Rattle.path_delays.specs.Vocabulary.{int_min, int_max, IsWithin, narrow_limit, wide_lanes};
 
 use crate::lanes::{LANES, Lane};
 use crate::row::Row;
@@ -69,8 +68,6 @@ pub(crate) struct NarrowLanes {
 }
 
 impl Row for NarrowLanes {
-    ghost use Rattle.path_delays.specs.NarrowParts.{narrow_limit, wide_lanes};
-
     ghost wide = { wide_lanes };
 
     ghost limit = { narrow_limit };

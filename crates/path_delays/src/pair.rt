@@ -1,13 +1,5 @@
 ghost use Rattle.std.specs.Prelude.{◌≡◌, ◌<◌, ℕ, List, length, Contains, IfOk};
-ghost use Rattle.cts_model.specs.declared.circuit.Circuit.{Circuit};
-ghost use Rattle.cts_model.specs.declared.tech.Tech.{Tech};
-ghost use Rattle.gate_order.specs.LevelParts.{IsLevelsOf};
-ghost use Rattle.path_delays.specs.declared.walk.Walk.{Walk};
-ghost use Rattle.path_delays.specs.WalkParts.{ReachesEach, sums_to};
-ghost use Rattle.path_delays.specs.Captured.{AreCapturedBy};
-ghost use Rattle.path_delays.specs.Carrying.{AreExtremesIfAny, StandsAt};
-ghost use Rattle.path_delays.specs.SumParts.{either_sums};
-ghost use Rattle.path_delays.specs.JoinedPairs.{IsJoinedBy};
+ghost use Rattle.path_delays.specs.Vocabulary.{Circuit, Tech, IsLevelsOf, Walk, ReachesEach, sums_to, AreCapturedBy, AreExtremesIfAny, StandsAt, either_sums, IsJoinedBy};
 
 use crate::lanes::Lane;
 use crate::sums::Sums;

@@ -1,10 +1,5 @@
 ghost use Rattle.std.specs.Prelude.{◌≡◌, ◌<◌, ◌≤◌, ◌+◌, ◌-◌, ◌++◌, ℕ, All, length, vec_len, IfOk, IfErr, OnOk};
-ghost use Rattle.std.specs.Option.{option_to_list};
-ghost use Rattle.cts_model.specs.declared.tech.Tech.{Tech};
-ghost use Rattle.cts_model.specs.timing.PairLists.{JoinsMoreThan};
-ghost use Rattle.path_delays.specs.WalkParts.{HasReach, IsRoomFor};
-ghost use Rattle.path_delays.specs.Capturings.{AreAllReached, IsCapture, IsCapturingOf, registers_of};
-ghost use Rattle.path_delays.specs.JoinedPairs.{ListsPairsBefore, ArePairs, ShowsTooMany, MeetsLimit, pair_limit};
+ghost use Rattle.path_delays.specs.Vocabulary.{option_to_list, Tech, JoinsMoreThan, HasReach, IsRoomFor, AreAllReached, IsCapture, IsCapturingOf, registers_of, ListsPairsBefore, ArePairs, ShowsTooMany, MeetsLimit, pair_limit};
 
 use crate::PairFault;
 use crate::capturing::{Capture, Capturing, list_captures};

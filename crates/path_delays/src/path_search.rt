@@ -1,4 +1,5 @@
-ghost use Rattle.std.specs.Prelude.{◌<◌, length};
+ghost use Rattle.std.specs.Prelude.{◌<◌, length, ◌≡◌, All, IfErr, IfOk};
+ghost use Rattle.path_delays.specs.Vocabulary.{ArePathsWithin, IsConstraintOf, JoinsMoreThan, IsLevelsOf, IsExtremeIfAny, AreDelaysBetween, ArePairs, ShowsTooMany, pair_limit};
 
 use crate::PairFault;
 use crate::between::walked_delays;
@@ -33,14 +34,6 @@ impl<'a> Model for Paths<'a> {
 }
 
 impl<'a> Paths<'a> {
-    ghost use Rattle.std.specs.Prelude.{◌≡◌, All, IfErr, IfOk};
-    ghost use Rattle.cts_model.specs.timing.ConstraintPaths.{ArePathsWithin};
-    ghost use Rattle.cts_model.specs.timing.Constraints.{IsConstraintOf};
-    ghost use Rattle.cts_model.specs.timing.PairLists.{JoinsMoreThan};
-    ghost use Rattle.gate_order.specs.LevelParts.{IsLevelsOf};
-    ghost use Rattle.path_delays.specs.ExtremePaths.{IsExtremeIfAny};
-    ghost use Rattle.path_delays.specs.JoinedPairs.{AreDelaysBetween, ArePairs, ShowsTooMany, pair_limit};
-
     /// The paths of a circuit. Which gates read each signal is listed once, for all of them.
     ///
     /// # Errors

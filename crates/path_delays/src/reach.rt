@@ -1,4 +1,5 @@
 ghost use Rattle.std.specs.Prelude.{◌≡◌, ◌<◌, ◌*◌, ◌^◌, Some, IfOk, if◌then◌else◌, length};
+ghost use Rattle.path_delays.specs.Vocabulary.{Lanes, AreWithin, delay_limit, AllBounded, rows_of, narrow_limit, CanHandOn, HasReachRoom, HasRoomAt, IsCleared, IsHanded, IsHandedOn, IsMarked, IsOpened, IsSameRoom, IsStarted, lanes_at, limit_of, sums_at};
 
 use crate::lane_table::LaneTable;
 use crate::lanes::Lane;
@@ -20,13 +21,6 @@ pub(crate) struct Reach {
 }
 
 impl Reach {
-    ghost use Rattle.path_delays.specs.declared.lanes.Lanes.{Lanes};
-    ghost use Rattle.path_delays.specs.SumParts.{AreWithin, delay_limit};
-    ghost use Rattle.path_delays.specs.LaneParts.{AllBounded};
-    ghost use Rattle.path_delays.specs.LaneTables.{rows_of};
-    ghost use Rattle.path_delays.specs.NarrowParts.{narrow_limit};
-    ghost use Rattle.path_delays.specs.Handing.{CanHandOn, HasReachRoom, HasRoomAt, IsCleared, IsHanded, IsHandedOn, IsMarked, IsOpened, IsSameRoom, IsStarted, lanes_at, limit_of, sums_at};
-
     /// Nothing reached yet, with room for so many signals and gates, of a short network or another.
     pub(crate) fn new(
         alloc: Global,

@@ -1,7 +1,5 @@
 ghost use Rattle.std.specs.Prelude.{◌≡◌, ◌<◌, ◌==◌, ℕ, false, None, if◌then◌else◌, slice_index_or};
-ghost use Rattle.path_delays.specs.declared.lanes.Lanes.{Lanes};
-ghost use Rattle.path_delays.specs.LaneParts.{AllBounded, lane_of};
-ghost use Rattle.path_delays.specs.SumParts.{AreWithin, merged_sums, no_sums, some_sums, sums_through};
+ghost use Rattle.path_delays.specs.Vocabulary.{Lanes, AllBounded, lane_of, AreWithin, merged_sums, no_sums, some_sums, sums_through};
 
 use crate::lanes::Lane;
 use crate::sums::Sums;

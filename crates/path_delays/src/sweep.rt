@@ -1,14 +1,5 @@
 ghost use Rattle.std.specs.Prelude.{◌≡◌, ◌<◌, ◌+◌, ◌*◌, ◌^◌, ℕ, All, Contains, IfOk, IsTrue, Some, length, nat_abs, slice_set};
-ghost use Rattle.std.specs.Option.{option_map};
-ghost use Rattle.cts_model.specs.netlist.Kinds.{is_gate, is_valid};
-ghost use Rattle.cts_model.specs.placement.Points.{IsBelow};
-ghost use Rattle.cts_model.specs.table.Tables.{IsWithin};
-ghost use Rattle.gate_order.specs.LevelParts.{IsLevelsOf};
-ghost use Rattle.path_delays.specs.declared.window.Window.{Window};
-ghost use Rattle.path_delays.specs.Carrying.{AreExtremesIfAny, StandsAt};
-ghost use Rattle.path_delays.specs.Networks.{AreInputs, gate_sums};
-ghost use Rattle.path_delays.specs.Windows.{AreWindows, IsSmallSchedule, IsWindowBelow};
-ghost use Rattle.path_delays.specs.WindowParts.{AreBelow, AreCaptures, AreLaunched, ArePassed, IsGateWindow, either_window, start_window, sums_in, sums_of, window_at, window_limit};
+ghost use Rattle.path_delays.specs.Vocabulary.{option_map, is_gate, is_valid, IsBelow, IsWithin, IsLevelsOf, Window, AreExtremesIfAny, StandsAt, AreInputs, gate_sums, AreWindows, IsSmallSchedule, IsWindowBelow, AreBelow, AreCaptures, AreLaunched, ArePassed, IsGateWindow, either_window, start_window, sums_in, sums_of, window_at, window_limit};
 
 use crate::gate_delays::gate_delay;
 use crate::launching::{input_signals, launched, start_sums};

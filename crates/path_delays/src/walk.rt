@@ -1,4 +1,5 @@
 ghost use Rattle.std.specs.Prelude.{◌≡◌, ◌<◌, ◌≤◌, ◌+◌, ℕ, false, None, All, IfOk, IsTrue, length, slice_index_or};
+ghost use Rattle.path_delays.specs.Vocabulary.{IsLevelsOf, IsCommon, has_number, HaveReach, HaveReachBetween, IsRoomFor, sums_to, IsNetworkOf, HasReachRoom, IsCleared, HaveReachedUpTo, IsSpreadBelow};
 
 use crate::lanes::{LANES, Lane};
 use crate::launching::{launched, start_sums};
@@ -29,10 +30,6 @@ pub(crate) struct Walk {
 }
 
 impl Walk {
-    ghost use Rattle.gate_order.specs.LevelParts.{IsLevelsOf};
-    ghost use Rattle.path_delays.specs.NumberSets.{IsCommon, has_number};
-    ghost use Rattle.path_delays.specs.WalkParts.{HaveReach, HaveReachBetween, IsRoomFor, sums_to};
-
     /// Room for walks over a circuit.
     pub(crate) fn new(
         alloc: Global,
@@ -128,10 +125,6 @@ impl Walk {
 }
 
 impl Reach {
-    ghost use Rattle.path_delays.specs.Networks.{IsNetworkOf};
-    ghost use Rattle.path_delays.specs.Handing.{HasReachRoom, IsCleared};
-    ghost use Rattle.path_delays.specs.Walking.{HaveReachedUpTo, IsSpreadBelow};
-
     // Reaches what registers reach up to a rank: each gate hands on its sums when no lower rank
     // waits.
     fn reach_up_to(&mut self, network: &Network, from: &Launches<'_>, top: u32)
