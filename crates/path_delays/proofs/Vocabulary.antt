@@ -38,7 +38,7 @@ pub use Rattle.gate_order.specs.declared.groups.Groups.{Groups}
 pub use Rattle.path_delays.specs.Captured.{AreCapturedBy, AreAllCaptures, AreCapturersOf, AreCapturedBelow}
 pub use Rattle.path_delays.specs.Capturings.{IsCapturer, HasCaptureRoom, IsSameCapturing, AreAllReached, AreGathered, IsCapturingOf}
 pub use Rattle.path_delays.specs.Carrying.{along, AreCarried, AreExtremesIfAny, AreShownBy, Comes, IsJoinedAt, StandsAt, AreExtremesOf, AreLaunchedBy, gate_sums_at, start_sums}
-pub use Rattle.path_delays.specs.CyclePaths.{FitsRoom, IsPathWithin, KeepsPaths, pair_of, path_signals}
+pub use Rattle.path_delays.specs.CyclePaths.{FitsRoom, IsPathWithin, KeepsPaths, pair_of}
 pub use Rattle.path_delays.specs.ExtremePaths.{IsExtremeIfAny, delay_by, extreme_of, IsNoFurther, IsFurthest, IsExtremePath}
 pub use Rattle.path_delays.specs.Handing.{delay_at, lane_at, lanes_at, rank_at, CanHandOn, HasReachRoom, IsSameRoom, IsHanded, IsMarked, IsOpened, AreHanded, limit_at, most_at, limit_of, most_of, no_delay, sums_at, waits_at, IsCleared, IsStarted, IsHandedOn}
 pub use Rattle.path_delays.specs.JoinedPairs.{IsJoinedBy, AreDelaysBetween, ListsPairsBefore, MeetsLimit, ShowsTooMany, pair_limit, IsDelayBetween, ArePairs}

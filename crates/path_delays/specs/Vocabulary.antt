@@ -14,7 +14,7 @@ pub use Rattle.gate_order.specs.LevelParts.{IsLevelsOf}
 pub use Rattle.path_delays.specs.Captured.{AreCapturedBy}
 pub use Rattle.path_delays.specs.Capturings.{IsCapture, registers_of, AreGathered, HasCaptureRoom, IsCapturingOf, AreAllReached}
 pub use Rattle.path_delays.specs.Carrying.{AreLaunchedBy, AreExtremesIfAny, StandsAt}
-pub use Rattle.path_delays.specs.CyclePaths.{FitsRoom, IsPathWithin, IsReachedAlong, AreReachedAlong, KeepsPaths, pair_of, path_signals}
+pub use Rattle.path_delays.specs.CyclePaths.{FitsRoom, IsPathWithin, IsReachedAlong, AreReachedAlong, KeepsPaths, pair_of}
 pub use Rattle.path_delays.specs.ExtremePaths.{IsExtremeIfAny, IsFurthestIfAny, extreme_of}
 pub use Rattle.path_delays.specs.Handing.{most_of, rank_at, CanHandOn, HasReachRoom, HasRoomAt, IsCleared, IsHanded, IsHandedOn, IsMarked, IsOpened, IsSameRoom, IsStarted, lanes_at, limit_of, sums_at}
 pub use Rattle.path_delays.specs.JoinedPairs.{AreDelaysBetween, IsJoinedBy, ListsPairsBefore, ArePairs, ShowsTooMany, MeetsLimit, pair_limit}

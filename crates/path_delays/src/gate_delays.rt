@@ -1,5 +1,5 @@
 ghost use Rattle.std.specs.Prelude.{◌≡◌, ◌<◌, IsTrue, IfOk, length, map};
-ghost use Rattle.path_delays.specs.Vocabulary.{is_gate, is_valid, gate_sums};
+ghost use Rattle.path_delays.specs.Vocabulary.{is_valid, gate_sums};
 
 use crate::sums::Sums;
 use cts_base::NoMemory;

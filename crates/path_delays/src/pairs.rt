@@ -1,84 +1,58 @@
-ghost use Rattle.std.specs.Prelude.{◌≡◌, ◌<◌, ◌≤◌, ◌+◌, ◌-◌, ◌++◌, ℕ, All, length, vec_len, IfOk, IfErr, OnOk};
-ghost use Rattle.path_delays.specs.Vocabulary.{option_to_list, Tech, JoinsMoreThan, HasReach, IsRoomFor, AreAllReached, IsCapture, IsCapturingOf, registers_of, ListsPairsBefore, ArePairs, ShowsTooMany, MeetsLimit, pair_limit};
+ghost use Rattle.std.specs.Prelude.{◌≡◌, ◌<◌, ◌≤◌, ◌+◌, ◌-◌, ◌++◌, ℕ, All, length, vec_len, IfErr, OnOk};
+ghost use Rattle.path_delays.specs.Vocabulary.{option_to_list, Tech, HasReach, IsRoomFor, AreAllReached, IsCapture, IsCapturingOf, registers_of, ListsPairsBefore, ShowsTooMany, MeetsLimit, pair_limit};
 
 use crate::PairFault;
 use crate::capturing::{Capture, Capturing, list_captures};
-use crate::lanes::{LANES, Lane, block_end};
+use crate::lanes::{LANES, Lane};
 use crate::pair::{captured_sums, joined_pair};
+use crate::path_search::Paths;
 use crate::walk::{Launches, Walk};
-use cts_base::Listed;
 use cts_model::{Circuit, PairDelay, Tech};
-use std::alloc::Global;
 
 /// How many joined pairs of registers a circuit may have.
 const MAX_PAIRS: usize = 1_048_576;
 
 /// The pairs that are listed so far.
 #[derive(Drop)]
-struct PairList {
-    list: Vec<PairDelay>,
-    ghost few: { vec_len list ≤ pair_limit },
+pub(crate) struct PairList {
+    pub(crate) list: Vec<PairDelay>,
+    pub(crate) ghost few: { vec_len list ≤ pair_limit },
 }
 
-/// The delays of all joined pairs, walked to from sixteen registers at a time in the same room.
-pub(crate) fn walked_pairs(
-    walk: &mut Walk,
-    alloc: Global,
-    circuit: &Circuit,
-    tech: &Tech,
-) -> Result<Listed<PairDelay>, PairFault>
-    requires { IsRoomFor circuit.now tech.now walk.old }
-    ensures ok { IfOk result (ArePairs circuit.now tech.now) }
-    ensures few { IfOk result (λ _. JoinsMoreThan circuit.now pair_limit → ⊥) }
-    ensures many { IfErr result (ShowsTooMany circuit.now) }
-    ensures room { IsRoomFor circuit.now tech.now walk.new }
-{
-    let mut capturing = Capturing::new(alloc, circuit)?;
-    let mut pairs = PairList {
-        list: Vec::new(alloc),
-    };
-    let mut first = 0;
-    while first < circuit.registers.len() {
-        let end = block_end(first, circuit.registers.len());
-        push_block(&mut pairs, walk, &mut capturing, circuit, tech, first, end)?;
-        first = end;
+impl Paths<'_> {
+    /// Appends the pairs of up to sixteen registers that launch, from one number up to another.
+    pub(crate) fn push_block(
+        &mut self,
+        pairs: &mut PairList,
+        capturing: &mut Capturing,
+        first: usize,
+        end: usize,
+    ) -> Result<(), PairFault>
+        requires after { first < end }
+        requires short { end ≤ first + 16 }
+        requires within { end ≤ length self.old.circuit.registers }
+        requires capturing { IsCapturingOf self.old.circuit capturing.old }
+        requires listed { ListsPairsBefore self.old.circuit self.old.tech first 0
+            pairs.old.list.items }
+        ensures same { self.new ≡ self.old }
+        ensures capturing { OnOk result (IsCapturingOf self.old.circuit capturing.new) }
+        ensures listed { OnOk result
+            (ListsPairsBefore self.old.circuit self.old.tech end 0 pairs.new.list.items) }
+        ensures many { IfErr result (ShowsTooMany self.old.circuit) }
+    {
+        walk_block(&mut self.walk, self.circuit, self.tech, first, end);
+        capturing.gather(&self.walk)?;
+        let registers = capturing.registers.as_slice();
+        list_captures(&mut capturing.captures, &self.walk, self.circuit, registers)?;
+        let captures = capturing.captures.as_slice();
+        for from in first..end {
+            let lane = Lane {
+                number: from - first,
+            };
+            push_pairs_from(pairs, &self.walk, captures, self.circuit, lane, from as u32)?;
+        }
+        Ok(())
     }
-    Ok(Listed::from_vec(pairs.list))
-}
-
-// Appends the pairs of up to sixteen registers that launch, from one number up to another.
-fn push_block(
-    pairs: &mut PairList,
-    walk: &mut Walk,
-    capturing: &mut Capturing,
-    circuit: &Circuit,
-    tech: &Tech,
-    first: usize,
-    end: usize,
-) -> Result<(), PairFault>
-    requires after { first < end }
-    requires short { end ≤ first + 16 }
-    requires within { end ≤ length circuit.now.registers }
-    requires room { IsRoomFor circuit.now tech.now walk.old }
-    requires capturing { IsCapturingOf circuit.now capturing.old }
-    requires listed { ListsPairsBefore circuit.now tech.now first 0 pairs.old.list.items }
-    ensures room { IsRoomFor circuit.now tech.now walk.new }
-    ensures capturing { OnOk result (IsCapturingOf circuit.now capturing.new) }
-    ensures listed { OnOk result (ListsPairsBefore circuit.now tech.now end 0 pairs.new.list.items) }
-    ensures many { IfErr result (ShowsTooMany circuit.now) }
-{
-    walk_block(walk, circuit, tech, first, end);
-    capturing.gather(walk)?;
-    let registers = capturing.registers.as_slice();
-    list_captures(&mut capturing.captures, walk, circuit, registers)?;
-    let captures = capturing.captures.as_slice();
-    for from in first..end {
-        let lane = Lane {
-            number: from - first,
-        };
-        push_pairs_from(pairs, walk, captures, circuit, lane, from as u32)?;
-    }
-    Ok(())
 }
 
 // Walks from up to sixteen registers, from one number up to another.

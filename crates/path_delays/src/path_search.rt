@@ -2,11 +2,10 @@ ghost use Rattle.std.specs.Prelude.{◌<◌, length, ◌≡◌, All, IfErr, IfOk
 ghost use Rattle.path_delays.specs.Vocabulary.{ArePathsWithin, IsConstraintOf, JoinsMoreThan, IsLevelsOf, IsExtremeIfAny, AreDelaysBetween, ArePairs, ShowsTooMany, pair_limit};
 
 use crate::PairFault;
-use crate::between::walked_delays;
-use crate::cycle_paths::paths_within;
+use crate::capturing::Capturing;
 use crate::extreme_path::path_back;
-use crate::lanes::Lane;
-use crate::pairs::walked_pairs;
+use crate::lanes::{Lane, block_end};
+use crate::pairs::PairList;
 use crate::walk::Walk;
 use cts_base::{Listed, NoMemory};
 use cts_model::{Circuit, Constraint, PairDelay, Tech};
@@ -14,12 +13,15 @@ use gate_order::Levels;
 use std::alloc::Global;
 use std::marker::Model;
 
+/// How many signals the paths of a cycle have together, at most.
+const MAX_SIGNALS: usize = 4_096;
+
 /// The paths of a circuit and their delays, looked for in the same room.
 #[derive(Drop)]
 pub struct Paths<'a> {
-    circuit: &'a Circuit,
-    tech: &'a Tech,
-    walk: Walk,
+    pub(crate) circuit: &'a Circuit,
+    pub(crate) tech: &'a Tech,
+    pub(crate) walk: Walk,
 }
 
 impl<'a> Model for Paths<'a> {
@@ -70,7 +72,17 @@ impl<'a> Paths<'a> {
         ensures many { IfErr result (ShowsTooMany self.old.circuit) }
         ensures same { self.new ≡ self.old }
     {
-        walked_pairs(&mut self.walk, alloc, self.circuit, self.tech)
+        let mut capturing = Capturing::new(alloc, self.circuit)?;
+        let mut pairs = PairList {
+            list: Vec::new(alloc),
+        };
+        let mut first = 0;
+        while first < self.circuit.registers.len() {
+            let end = block_end(first, self.circuit.registers.len());
+            self.push_block(&mut pairs, &mut capturing, first, end)?;
+            first = end;
+        }
+        Ok(Listed::from_vec(pairs.list))
     }
 
     /// The delays of pairs of registers, one pair after the other, over all paths between the two.
@@ -91,7 +103,14 @@ impl<'a> Paths<'a> {
             (AreDelaysBetween self.old.circuit self.old.tech pairs.now) }
         ensures same { self.new ≡ self.old }
     {
-        walked_delays(&mut self.walk, alloc, self.circuit, self.tech, pairs)
+        let mut delays = Vec::new(alloc);
+        let mut first = 0;
+        while first < pairs.len() {
+            let end = block_end(first, pairs.len());
+            self.push_delays(&mut delays, &pairs[first..end])?;
+            first = end;
+        }
+        Ok(Listed::from_vec(delays))
     }
 
     /// The signals of a path from one register to another with the greatest delay of all, or with
@@ -143,6 +162,14 @@ impl<'a> Paths<'a> {
             (ArePathsWithin self.old.circuit self.old.tech 4096 constraints.now) }
         ensures same { self.new ≡ self.old }
     {
-        paths_within(&mut self.walk, alloc, self.circuit, self.tech, constraints)
+        let mut paths = Listed::new(alloc);
+        let mut room = MAX_SIGNALS;
+        let mut first = 0;
+        while first < constraints.len() {
+            let end = block_end(first, constraints.len());
+            room = self.push_paths(&mut paths, alloc, &constraints[first..end], room)?;
+            first = end;
+        }
+        Ok(paths)
     }
 }

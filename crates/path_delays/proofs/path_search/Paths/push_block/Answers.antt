@@ -1,14 +1,15 @@
 -- What is gathered is gathered from each register of the block.
-use Rattle.path_delays.proofs.Vocabulary.{◌-◌, arith, Capturing}
+use Rattle.path_delays.proofs.Vocabulary.{◌-◌, arith, rules, Capturing}
 use Rattle.path_delays.proofs.CapturingLemmas.{capturing_same, gathered_from}
-use Rattle.path_delays.proofs.pairs.push_block.Goals as goal
+use Rattle.path_delays.proofs.path_search.Paths.push_block.Goals as goal
 
 pub list_captures-requires : goal.list_captures-requires
 list_captures-requires c =
     let from = c.args.first in
-    rw c.as_slice-registers.ensures.value (gathered_from c.args.circuit.now c.args.tech.now from
+    rw c.as_slice-registers.ensures.value (gathered_from c.self.inside.circuit.now c.self.inside.tech.now from
     (from - from) c.walk_block.new.walk c.args.capturing.now c.gather.new.self
-    (c.walk_block.ensures.reach from (omega arith) c.requires.after) c.requires.capturing
+    (c.walk_block.ensures.reach from (omega arith) c.requires.after)
+    (rw (← c.self.view_is) at c.requires.capturing)
     c.in_ok-gather.ensures).within
 
 pub push_pairs_from-requires-clause-registers : goal.push_pairs_from-requires-clause-registers
@@ -19,9 +20,10 @@ push_pairs_from-requires-clause-registers c =
       c.in_ok-list_captures.ensures.registers,
       c.as_slice-registers.ensures.value,
     )
-    (gathered_from c.args.circuit.now c.args.tech.now from
+    (gathered_from c.self.inside.circuit.now c.self.inside.tech.now from
     (from - c.args.first) c.walk_block.new.walk c.args.capturing.now c.gather.new.self
-    (c.walk_block.ensures.reach from (omega arith) (omega arith)) c.requires.capturing
+    (c.walk_block.ensures.reach from (omega arith) (omega arith))
+    (rw (← c.self.view_is) at c.requires.capturing)
     c.in_ok-gather.ensures)
 
 pub returns-clause-capturing : goal.returns-clause-capturing
@@ -35,9 +37,12 @@ returns-clause-capturing c =
       registers = c.gather.new.self.registers;
       captures = c.list_captures.new.captures;
     } in
-    capturing_same c.args.circuit.now c.args.capturing.now new (record {
+    capturing_same c.args.self.now.circuit c.args.capturing.now new (record {
       capturers = same.capturers;
       captured = same.captured;
       reached = same.reached;
       found = same.found;
     }) c.requires.capturing
+
+pub returns-clause-listed : goal.returns-clause-listed
+returns-clause-listed c = rw (← c.self.view_is) (search rules)

@@ -2,12 +2,12 @@
 use Rattle.path_delays.proofs.Vocabulary.{◌∷◌, ◌++◌, [], take, get_or, append_assoc, take_more, slice_get-get_or, IsJoinedBy}
 use Rattle.path_delays.proofs.BetweenLemmas.{between_push}
 use Rattle.path_delays.proofs.ReachedPairs.{captured_is_fan_in}
-use Rattle.path_delays.proofs.between.push_delays.Goals as goal
+use Rattle.path_delays.proofs.path_search.Paths.push_delays.Goals as goal
 
 pub loop-lane-preserved : goal.loop-lane-preserved
 loop-lane-preserved c passed before =
-    let circuit = c.args.circuit.now in
-    let tech = c.args.tech.now in
+    let circuit = c.self.inside.circuit.now in
+    let tech = c.self.inside.tech.now in
     let pairs = c.args.pairs.now in
     let lane = c.loop-lane.lane in
     let pair = get_or pairs lane (0, 0) in
