@@ -1,4 +1,4 @@
-ghost use Rattle.std.specs.Prelude.{◌<◌, length, ◌≡◌, All, IfErr, IfOk};
+ghost use Rattle.std.specs.Prelude.{◌≡◌, ◌<◌, All, IfErr, IfOk, length};
 ghost use Rattle.path_delays.specs.Vocabulary.{ArePathsWithin, IsConstraintOf, JoinsMoreThan, IsLevelsOf, IsExtremeIfAny, AreDelaysBetween, ArePairs, ShowsTooMany, pair_limit};
 
 use crate::PairFault;
