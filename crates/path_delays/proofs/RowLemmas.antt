@@ -33,7 +33,8 @@ module _ {R : Type 0} (wide : R → Lanes) (rows : List R) (signal : ℕ) (row :
   pub row_gets : (sums : ℕ → Sums) → ((lane : ℕ) → lane < 16 → lane_of (wide row) lane ≡ sums lane)
       → GetsSums signal sums (map wide rows) (map wide (set rows signal row))
   row_gets sums each = subst (GetsSums signal sums (map wide rows))
-      (sym (map-set wide rows signal row)) (set_gets (map wide rows) signal (wide row) sums inside each)
+      (sym (map-set wide rows signal row)) (set_gets (map wide rows) signal (wide row) sums inside
+      each)
 
   -- what is read of a row
   pub row_read : row ≡ get_or rows signal row → row_at (map wide rows) signal ≡ wide row

@@ -47,7 +47,8 @@ fn furthest_read(
     greatest: bool,
 ) -> Option<u32>
     requires { gate < length circuit.now.signals }
-    ensures { IsFurthestIfAny walk.now lane.number (Reads circuit.now.signals gate) greatest result }
+    ensures { IsFurthestIfAny walk.now lane.number (Reads circuit.now.signals gate) greatest
+        result }
 {
     let signal = &circuit.signals.as_slice()[gate as usize];
     if signal.kind.is_gate() {

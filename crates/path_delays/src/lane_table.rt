@@ -35,7 +35,8 @@ impl LaneTable {
 
     /// The sums in a lane of a signal, if there are any.
     pub(crate) fn sums(&self, signal: usize, lane: Lane) -> Option<Sums>
-        ensures { result ≡ option_and_then some_sums (lane_in (rows_of self.now) signal lane.number) }
+        ensures { result
+            ≡ option_and_then some_sums (lane_in (rows_of self.now) signal lane.number) }
     {
         match self {
             LaneTable::Narrow(rows) => in_lane(rows, signal, lane),

@@ -52,7 +52,8 @@ pub(crate) fn joined_pair(from: u32, to: u32, found: Option<Sums>) -> Option<Pai
 
 /// The least and the greatest of what a walk found at some signals in a lane.
 pub(crate) fn captured_sums(walk: &Walk, lane: Lane, signals: &[u32]) -> Option<Sums>
-    ensures { AreExtremesIfAny (StandsAt (sums_to walk.now lane.number) (Contains signals.now)) result }
+    ensures { AreExtremesIfAny (StandsAt (sums_to walk.now lane.number) (Contains signals.now))
+        result }
 {
     if let [signal] = signals {
         return walk.sums(lane, *signal);

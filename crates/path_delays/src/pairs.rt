@@ -88,7 +88,8 @@ fn push_pairs_from(
 ) -> Result<(), PairFault>
     requires registers { AreAllReached circuit.now from (registers_of captures.now) }
     requires captures { All (IsCapture circuit.now walk.now) captures.now }
-    ensures listed { OnOk result ((tech : Tech) → HasReach circuit.now tech from lane.number walk.now
+    ensures listed { OnOk result ((tech : Tech)
+        → HasReach circuit.now tech from lane.number walk.now
         → ListsPairsBefore circuit.now tech from 0 pairs.old.list.items
         → ListsPairsBefore circuit.now tech (from + 1) 0 pairs.new.list.items) }
     ensures many { IfErr result (λ fault. (tech : Tech)
@@ -117,7 +118,8 @@ fn push_found(
 ) -> Result<(), PairFault>
     requires to { capture.now.register < length circuit.now.registers }
     requires capture { IsCapture circuit.now walk.now capture.now }
-    ensures listed { OnOk result ((tech : Tech) → HasReach circuit.now tech from lane.number walk.now
+    ensures listed { OnOk result ((tech : Tech)
+        → HasReach circuit.now tech from lane.number walk.now
         → ListsPairsBefore circuit.now tech from capture.now.register pairs.old.list.items
         → ListsPairsBefore circuit.now tech from (capture.now.register + 1) pairs.new.list.items) }
     ensures many { IfErr result (λ fault. (tech : Tech)
@@ -140,7 +142,8 @@ fn push_found(
 
 // Appends a pair, if there is one.
 fn push_joined(pairs: &mut PairList, joined: Option<PairDelay>) -> Result<(), PairFault>
-    ensures ok { OnOk result (pairs.new.list.items ≡ pairs.old.list.items ++ option_to_list joined) }
+    ensures ok { OnOk result
+        (pairs.new.list.items ≡ pairs.old.list.items ++ option_to_list joined) }
     ensures many { IfErr result (MeetsLimit joined pairs.old.list.items) }
 {
     match joined {

@@ -28,8 +28,8 @@ pub(crate) trait Row: Copy {
     /// In one lane the least and the greatest of both.
     fn join(&mut self, lane: Lane, sums: Sums)
         requires { AreWithin limit sums }
-        ensures { (other : ℕ) → other < 16 → lane_of (wide self.new) other ≡ (if other == lane.number
-            then merged_sums (lane_of (wide self.old) other) sums
+        ensures { (other : ℕ) → other < 16 → lane_of (wide self.new) other
+            ≡ (if other == lane.number then merged_sums (lane_of (wide self.old) other) sums
             else lane_of (wide self.old) other) };
 
     /// Becomes the sums after one more gate.

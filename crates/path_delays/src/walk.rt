@@ -51,7 +51,8 @@ impl Walk {
     /// highest, each register in a lane. It takes no memory.
     pub(crate) fn walk_from(&mut self, from: &Launches<'_>)
         requires { IsRoomFor from.now.circuit.now from.now.tech.now self.old }
-        ensures reach { HaveReach from.now.circuit.now from.now.tech.now from.now.registers.now self.new }
+        ensures reach { HaveReach from.now.circuit.now from.now.tech.now from.now.registers.now
+            self.new }
         ensures room { IsRoomFor from.now.circuit.now from.now.tech.now self.new }
     {
         self.reach.reach_up_to(&self.network, from, u32::MAX);

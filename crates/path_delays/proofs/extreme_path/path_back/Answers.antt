@@ -38,9 +38,9 @@ loop-read-init c =
     furthest.is_one in
     record {
       within = within;
-      back = λ tech from reach. back_first circuit tech from c.args.to c.args.lane.number c.args.walk.now
-          c.args.greatest c.requires.ranks reach c.in-Some.last c.in_ok-path.path.items
-          c.in_ok-path.ensures.items within furthest;
+      back = λ tech from reach. back_first circuit tech from c.args.to c.args.lane.number
+          c.args.walk.now c.args.greatest c.requires.ranks reach c.in-Some.last
+          c.in_ok-path.path.items c.in_ok-path.ensures.items within furthest;
     }
 
 pub returns : goal.returns

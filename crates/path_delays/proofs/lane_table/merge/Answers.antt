@@ -17,4 +17,5 @@ returns g c = row_gets g.R.Row.wide c.args.rows.now.items c.args.to c.merge.new.
       row_read g.R.Row.wide c.args.rows.now.items c.args.to
           c.index_mut.result.now c.requires.reader c.index_mut.ensures.value,
     ) (c.merge.ensures lane low
-    ∙ ap (merged_sums (lane_of (g.R.Row.wide c.index_mut.result.now) lane)) (c.pass.ensures lane low)))
+    ∙ ap (merged_sums (lane_of (g.R.Row.wide c.index_mut.result.now) lane))
+    (c.pass.ensures lane low)))

@@ -10,5 +10,5 @@ pass-requires-clause-sums g c = subst (AllBounded g.R.Row.limit)
 
 pub returns : goal.returns
 returns g c = row_gets g.R.Row.wide c.args.rows.now.items c.args.to c.pass.new.self
-    c.requires.reader _ (rw (row_read g.R.Row.wide c.args.rows.now.items c.args.from c.index.result.now
-    c.requires.known c.index.ensures) c.pass.ensures)
+    c.requires.reader _ (rw (row_read g.R.Row.wide c.args.rows.now.items c.args.from
+    c.index.result.now c.requires.known c.index.ensures) c.pass.ensures)

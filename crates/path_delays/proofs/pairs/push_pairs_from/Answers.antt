@@ -36,8 +36,9 @@ returns-in_err-push_found-clause-many c =
     c.in_err-push_found.ensures.many tech reach (subst
     (λ n. ListsPairsBefore c.args.circuit.now tech c.args.from n c.loop-capture.pairs.list.items)
     (register_at captures i c.loop-capture-test.true)
-    (passed_here c.requires.registers c.loop-capture.invariant.1 tech c.loop-capture.pairs.list.items
-    (c.loop-capture.invariant.2 tech reach listed) (omega (arith, as_many captures)))))
+    (passed_here c.requires.registers c.loop-capture.invariant.1 tech
+    c.loop-capture.pairs.list.items (c.loop-capture.invariant.2 tech reach listed)
+    (omega (arith, as_many captures)))))
 
 pub loop-capture-preserved-then-not-capture-lane : goal.loop-capture-preserved-then-not-capture-lane
 loop-capture-preserved-then-not-capture-lane c =
@@ -52,8 +53,8 @@ loop-capture-preserved-then-not-capture-lane c =
       λ tech reach listed.
           rw same
           (pair_next c.args.circuit.now tech c.args.from capture.register pairs pairs None
-          (missed_path c.args.circuit.now tech c.args.from c.args.lane.number c.args.walk.now capture
-          reach (c.requires.captures i no_capture c.loop-capture-test.true) c.args.lane.low
+          (missed_path c.args.circuit.now tech c.args.from c.args.lane.number c.args.walk.now
+          capture reach (c.requires.captures i no_capture c.loop-capture-test.true) c.args.lane.low
           c.if-not-capture-lane.true) (sym (append-nil pairs)) (rw same at
           (passed_here c.requires.registers c.loop-capture.invariant.1 tech pairs
           (c.loop-capture.invariant.2 tech reach listed) inside))),

@@ -11,7 +11,8 @@ returns c other low =
     } in
     rw (lane_widened c.args.self.now other low, lane_widened joined other low)
     (elim (cases_eq other c.args.lane.number) [
-      | inl same ↦ rw (eq-eqb other c.args.lane.number same) (narrow_joined c.args.self.now joined other
-          c.args.sums c.requires (search rules) (search rules))
+      | inl same ↦ rw (eq-eqb other c.args.lane.number same)
+          (narrow_joined c.args.self.now joined other c.args.sums c.requires (search rules)
+          (search rules))
       | inr differs ↦ rw (ne_eqb other c.args.lane.number differs) (search rules)
     ])

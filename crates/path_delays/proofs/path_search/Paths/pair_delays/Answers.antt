@@ -10,8 +10,8 @@ loop-first-init c = grind (arith, none_before)
 pub returns-clause-ok : goal.returns-clause-ok
 returns-clause-ok c =
     rw c.from_vec.ensures
-    (all_listed c.args.self.now.circuit c.args.self.now.tech c.loop-first.first c.loop-first.pairs.list.items
-    (omega (
+    (all_listed c.args.self.now.circuit c.args.self.now.tech c.loop-first.first
+    c.loop-first.pairs.list.items (omega (
       arith,
       c.loop-first-test.false,
       c.len.ensures,

@@ -6,9 +6,9 @@ use Rattle.path_delays.proofs.path_search.Paths.push_block.Goals as goal
 pub list_captures-requires : goal.list_captures-requires
 list_captures-requires c =
     let from = c.args.first in
-    rw c.as_slice-registers.ensures.value (gathered_from c.self.inside.circuit.now c.self.inside.tech.now from
-    (from - from) c.walk_block.new.walk c.args.capturing.now c.gather.new.self
-    (c.walk_block.ensures.reach from (omega arith) c.requires.after)
+    rw c.as_slice-registers.ensures.value (gathered_from c.self.inside.circuit.now
+    c.self.inside.tech.now from (from - from) c.walk_block.new.walk c.args.capturing.now
+    c.gather.new.self (c.walk_block.ensures.reach from (omega arith) c.requires.after)
     (rw (← c.self.view_is) at c.requires.capturing)
     c.in_ok-gather.ensures).within
 

@@ -33,8 +33,8 @@ start-requires-clause-small c = grind (arith, all_bounded)
 
 pub loop-signal-preserved : goal.loop-signal-preserved
 loop-signal-preserved c = record {
-  spread = begun_next c.args.from.now.circuit.now c.args.from.now.tech.now c.args.network.now c.requires.network
-      c.args.from.now.registers.now c.args.lane _
+  spread = begun_next c.args.from.now.circuit.now c.args.from.now.tech.now c.args.network.now
+      c.requires.network c.args.from.now.registers.now c.args.lane _
       (slice_get-get_or c.args.from.now.registers.now c.args.lane 0 c.requires.lane)
       c.launched-signal-items.result.now
       c.launched-signal-items.ensures c.loop-signal.self c.start.new.self
@@ -49,12 +49,12 @@ returns c =
     let launched = c.launched-signal-items.result.now in
     let all : c.loop-signal.signal-index ≡ length launched = omega arith in
     record {
-      spread = begun_all c.args.from.now.circuit.now c.args.from.now.tech.now c.args.network.now c.requires.network
-          c.args.from.now.registers.now c.args.lane _
+      spread = begun_all c.args.from.now.circuit.now c.args.from.now.tech.now c.args.network.now
+          c.requires.network c.args.from.now.registers.now c.args.lane _
           (slice_get-get_or c.args.from.now.registers.now c.args.lane 0 c.requires.lane) launched
           c.launched-signal-items.ensures c.loop-signal.self
-          (subst (λ n. IsSpread c.args.from.now.circuit.now c.args.from.now.tech.now c.args.network.now
-          c.args.from.now.registers.now (BegunIn c.args.lane (take n launched))
+          (subst (λ n. IsSpread c.args.from.now.circuit.now c.args.from.now.tech.now
+          c.args.network.now c.args.from.now.registers.now (BegunIn c.args.lane (take n launched))
           (AllBelow c.args.network.now 1) 1 c.loop-signal.self) all
           c.loop-signal.invariant.spread);
       room = c.loop-signal.invariant.room;

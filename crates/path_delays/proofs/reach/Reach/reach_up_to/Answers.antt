@@ -12,8 +12,8 @@ index-requires c = grind (arith, next_within)
 pub hand_on-requires : goal.hand_on-requires
 hand_on-requires c =
     let due = c.loop-next.invariant.spread.due c.in-Some.next c.in-Some.ensures.some.held in
-    let next = next_gate c.args.from.now.circuit.now c.args.from.now.tech.now c.args.network.now c.requires.network
-    c.loop-next.self c.loop-next.rank c.in-Some.next c.index.result.now
+    let next = next_gate c.args.from.now.circuit.now c.args.from.now.tech.now c.args.network.now
+    c.requires.network c.loop-next.self c.loop-next.rank c.in-Some.next c.index.result.now
     c.loop-next.invariant.counted due c.index.ensures in record {
       room = search rules;
       inside = omega (arith, next.inside, c.requires.network.ranks.covers);
@@ -58,8 +58,8 @@ pub returns-then-next-top-clause-reach : goal.returns-then-next-top-clause-reach
 returns-then-next-top-clause-reach c lane from signal here below =
     let registers = c.args.from.now.registers.now in
     let within = slice_get_within registers lane from here in
-    reach_shown c.args.from.now.circuit.now c.args.from.now.tech.now registers from lane here c.args.network.now
-    c.requires.network c.loop-next.self c.loop-next.rank within
+    reach_shown c.args.from.now.circuit.now c.args.from.now.tech.now registers from lane here
+    c.args.network.now c.requires.network c.loop-next.self c.loop-next.rank within
     (omega (arith, within, c.args.from.now.few)) c.loop-next.invariant.spread c.args.top
     (λ other waits. omega (arith, c.if-next-top.true, c.in-Some.ensures.some.lowest other waits))
     signal below

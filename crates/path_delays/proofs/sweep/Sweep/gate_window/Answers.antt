@@ -21,8 +21,11 @@ returns-clause-suffix c = record {
   read = Some c.in_ok-read.read;
   extremes = rw c.as_slice.ensures at c.in_ok-read.ensures;
   suffix = ap (λ (window : Window). Some window)
-      (rw (c.gate_delay.ensures, kept_ticks c.args.self.now.schedule.now.den c.args.self.now.scale (omega arith)) at
-      c.suffix.ensures.suffix);
+      (rw (
+        c.gate_delay.ensures,
+        kept_ticks c.args.self.now.schedule.now.den c.args.self.now.scale
+            (omega arith),
+      ) at c.suffix.ensures.suffix);
 }
 
 pub returns-clause-small : goal.returns-clause-small

@@ -25,8 +25,8 @@ loop-signal-preserved c =
     let launched = c.launched-signal-items.result.now in
     let place = c.loop-signal.signal-index in
     let signal = get_or launched place 0 in
-    begun_next c.args.self.now.circuit.now c.args.self.now.tech.now c.args.self.now.schedule.now c.args.from launched
-    c.launched-signal-items.ensures place c.loop-signal.windows.items
+    begun_next c.args.self.now.circuit.now c.args.self.now.tech.now c.args.self.now.schedule.now
+    c.args.from launched c.launched-signal-items.ensures place c.loop-signal.windows.items
     c.put.new.windows.items c.requires.from c.loop-signal-test.true
     (omega (
       arith,
@@ -42,8 +42,9 @@ pub returns : goal.returns
 returns c =
     let launched = c.launched-signal-items.result.now in
     let all : c.loop-signal.signal-index ≡ length launched = omega arith in
-    begun_all c.args.self.now.circuit.now c.args.self.now.tech.now c.args.self.now.schedule.now c.args.from launched
-    c.launched-signal-items.ensures c.loop-signal.windows.items
-    (subst (λ n. AreSwept c.args.self.now.circuit.now c.args.self.now.tech.now c.args.self.now.schedule.now 0
-    (BegunTo c.args.self.now.circuit.now c.args.self.now.tech.now c.args.self.now.schedule.now c.args.from (take n launched))
-    NoneHanded c.loop-signal.windows.items) all c.loop-signal.invariant)
+    begun_all c.args.self.now.circuit.now c.args.self.now.tech.now c.args.self.now.schedule.now
+    c.args.from launched c.launched-signal-items.ensures c.loop-signal.windows.items
+    (subst (λ n. AreSwept c.args.self.now.circuit.now c.args.self.now.tech.now
+    c.args.self.now.schedule.now 0 (BegunTo c.args.self.now.circuit.now c.args.self.now.tech.now
+    c.args.self.now.schedule.now c.args.from (take n launched)) NoneHanded
+    c.loop-signal.windows.items) all c.loop-signal.invariant)

@@ -51,12 +51,12 @@ loop-gate-preserved c =
     let read = next_read c.args.self.now.circuit.now c.args.levels.now c.gates-gate-items.result.now
     c.as_slice.result.now c.loop-gate.gate-index c.index-as_slice-gate.result c.requires.levels
     c.gates-gate-items.ensures c.as_slice.ensures c.loop-gate-test.true c.index-as_slice-gate.is in
-    passed_next c.args.self.now.circuit.now c.args.self.now.tech.now c.args.self.now.schedule.now gate
-    c.index-as_slice-gate.result read.here read.is_one c.args.levels.now place c.requires.levels
-    read.stands c.loop-gate.windows.items c.put.new.windows.items c.gate_window-window.result
-    (rw c.as_slice-in-loop-gate.ensures.value at c.gate_window-window.ensures.suffix)
-    (λ window same. subst (λ n. IsWindowBelow n window) (omega arith)
-    (c.gate_window-window.ensures.small (window_limit place) window
+    passed_next c.args.self.now.circuit.now c.args.self.now.tech.now c.args.self.now.schedule.now
+    gate c.index-as_slice-gate.result read.here read.is_one c.args.levels.now place
+    c.requires.levels read.stands c.loop-gate.windows.items c.put.new.windows.items
+    c.gate_window-window.result (rw c.as_slice-in-loop-gate.ensures.value at
+    c.gate_window-window.ensures.suffix) (λ window same. subst (λ n. IsWindowBelow n window)
+    (omega arith) (c.gate_window-window.ensures.small (window_limit place) window
     (rw c.as_slice-in-loop-gate.ensures.value c.loop-gate.invariant.small) same))
     c.put.ensures c.loop-gate.invariant
 
