@@ -1,5 +1,5 @@
 -- Paths of constraints, one put after the other while there is room.
-use Rattle.path_delays.proofs.Vocabulary.{◌≡◌, ◌<◌, ◌≤◌, ◌+◌, ◌-◌, ℕ, List, [], ◌∷◌, ◌++◌, length, get_or, Bool, true, false, Option, Some, None, refl, ap, subst, sym, ◌∙◌, arith, ◌+ℤ◌, ◌-ℤ◌, if◌then◌else◌, slice_range, leb-true, leb-false, ints, drop_all, drop_more, drop-drop, take-append-drop, Circuit, Constraint, Tech, least_delay, greatest_delay, IsPath, path_within, FitsRoom, IsPathWithin, KeepsPaths, pair_of, path_signals, IsExtremeIfAny}
+use Rattle.path_delays.proofs.Vocabulary.{◌≡◌, ◌<◌, ◌≤◌, ◌+◌, ◌-◌, ℕ, List, [], ◌∷◌, ◌++◌, length, get_or, Bool, true, false, Option, Some, None, refl, ap, subst, sym, ◌∙◌, arith, ◌+ℤ◌, ◌-ℤ◌, if◌then◌else◌, slice_range, leb-true, leb-false, ints, drop_all, drop_more, drop-drop, take-append-drop, Circuit, Constraint, Tech, least_delay, greatest_delay, IsPath, path_within, FitsRoom, IsPathWithin, KeepsPaths, pair_of, IsExtremeIfAny}
 use Rattle.std.specs.Prelude.{MatchBool, drop}
 use Rattle.std.proofs.lemmas.List.{append-nil, append_assoc}
 use Rattle.std.proofs.Math.Seq.{append_snoc}
@@ -11,7 +11,7 @@ abbrev pub AreEarlierPaths : Circuit → Tech → (cycle : List Constraint) → 
     → (paths : List (List ℕ)) → Type 0
 AreEarlierPaths circuit tech cycle place room paths = (rest : List (List ℕ))
     → ArePathsWithin circuit tech room (drop place cycle) rest
-    → ArePathsWithin circuit tech path_signals cycle (paths ++ rest)
+    → ArePathsWithin circuit tech 4096 cycle (paths ++ rest)
 
 -- a constraint's registers are ones of the circuit
 pub pair_within : (circuit : Circuit) (tech : Tech) (constraint : Constraint)
@@ -114,7 +114,7 @@ pub earlier_paths_more : (circuit : Circuit) (tech : Tech) (cycle : List Constra
     → KeepsPaths circuit tech (slice_range cycle first end) room old new left
     → AreEarlierPaths circuit tech cycle end left new
 earlier_paths_more circuit tech cycle first end room left old new after earlier kept rest within =
-    subst (ArePathsWithin circuit tech path_signals cycle)
+    subst (ArePathsWithin circuit tech 4096 cycle)
     (sym (ap (λ l. l ++ rest) kept.is ∙ append_assoc old kept.pushed rest))
     (earlier (kept.pushed ++ rest)
     (subst (λ l. ArePathsWithin circuit tech room l (kept.pushed ++ rest)) joined
@@ -131,8 +131,8 @@ earlier_paths_more circuit tech cycle first end room left old new after earlier 
 pub all_paths : (circuit : Circuit) (tech : Tech) (cycle : List Constraint) (place room : ℕ)
     → (paths : List (List ℕ)) → length cycle ≤ place
     → AreEarlierPaths circuit tech cycle place room paths
-    → ArePathsWithin circuit tech path_signals cycle paths
+    → ArePathsWithin circuit tech 4096 cycle paths
 all_paths circuit tech cycle place room paths past earlier =
-    subst (ArePathsWithin circuit tech path_signals cycle) (append-nil paths)
+    subst (ArePathsWithin circuit tech 4096 cycle) (append-nil paths)
     (earlier [] (subst (λ left. ArePathsWithin circuit tech room left [])
     (sym (drop_all place cycle past)) tt))

@@ -1,5 +1,5 @@
 -- The delays of gates, from the rows of a table.
-use Rattle.path_delays.proofs.Vocabulary.{◌≡◌, ◌≤◌, ◌*◌, ℕ, ◌+◌, ◌-◌, ℤ, pos, negsuc, cond, Some, ◌+ℤ◌, ◌*ℤ◌, Bool, true, false, length, sym, subst, arith, ints, mul-le-mul_right, is_gate, place_of, Signal, Tech, delay_of, least_gate_delay, greatest_gate_delay, IsWithin, IsGateDelay, AreWithin, gate_sums, weight_of}
+use Rattle.path_delays.proofs.Vocabulary.{◌≡◌, ◌≤◌, ◌*◌, ℕ, ◌+◌, ◌-◌, ℤ, pos, negsuc, cond, Some, ◌+ℤ◌, ◌*ℤ◌, Bool, true, false, length, sym, subst, arith, ints, mul-le-mul_right, is_gate, place_of, Signal, Tech, delay_of, least_gate_delay, greatest_gate_delay, IsWithin, IsGateDelay, AreWithin, gate_sums, Circuit, List, [], ◌∷◌, refl, gate_inputs, sum_by, sum_by-cons}
 use Rattle.std.proofs.Math.IntN.{pos-*ℤ-pos}
 use Rattle.cts_model.proofs.DelayRows.{row_valid}
 
@@ -25,6 +25,24 @@ delay_within first per_input inputs within each =
       above = omega (arith, ints, within.above, further.above);
       below = omega (arith, ints, within.below, further.below);
     }
+
+-- no delay of a gate is more
+abbrev pub weight_of : Signal → ℕ
+weight_of signal = 1000000 + 1000 * gate_inputs signal
+
+-- a circuit's gates weigh so much together
+pub weights_within : (circuit : Circuit) → sum_by weight_of circuit.signals ≤ 65799144000
+weights_within circuit = grind (arith, weights_are)
+  where
+    weights_are : (signals : List Signal)
+        → sum_by weight_of signals ≡ 1000000 * length signals + 1000 * sum_by gate_inputs signals
+    weights_are [] = refl
+    weights_are (signal ∷ signals) = omega (
+      arith,
+      sum_by-cons weight_of signal signals,
+      sum_by-cons gate_inputs signal signals,
+      weights_are signals,
+    )
 
 -- a gate's delays are within its weight
 pub gate_within : (tech : Tech) (signal : Signal)

@@ -1,6 +1,5 @@
 -- Sums handed to one gate after the other.
-use Rattle.path_delays.proofs.Vocabulary.{◌≡◌, ◌≢◌, ◌<◌, ℕ, true, false, length, Some, List, [], ◌∷◌, ◌++◌, refl, sym, subst, arith, IsSome, if◌then◌else◌, eq-eqb, ne_eqb, get_or_from_slice_get, same_Some, slice_get-get_or, Lanes, Network, Reach, NumberSet, Sums, merged_sums, no_sums, sums_through, has_number, IsInserted, AllBounded, lane_of, GetsSums, row_at, rows_of, table_limit, delay_at, lane_at, lanes_at, rank_at, HasReachRoom, IsSameRoom, IsHanded, IsMarked, IsOpened, AreHanded}
-use Rattle.std.specs.Prelude.{◌==◌}
+use Rattle.path_delays.proofs.Vocabulary.{◌≡◌, ◌≢◌, ◌<◌, ℕ, true, false, length, Some, List, [], ◌∷◌, ◌++◌, refl, sym, subst, arith, eq-eqb, ne_eqb, get_or, get_or_from_slice_get, same_Some, slice_get-get_or, Lanes, Network, Reach, NumberSet, Sums, no_sums, sums_through, has_number, IsInserted, AllBounded, lane_of, CanHand, GetsSums, IsJoined, IsMerged, IsPassed, row_at, rows_of, table_limit, limit_of, delay_at, lane_at, lanes_at, rank_at, CanHandOn, HasReachRoom, IsSameRoom, IsHanded, IsMarked, IsOpened, AreHanded}
 use Rattle.path_delays.specs.declared.lane_table.LaneTable.{LaneTable}
 use Rattle.path_delays.proofs.LaneLemmas.{some_is}
 
@@ -21,15 +20,21 @@ AreHanded-push network given (first ∷ gates) gate old between new (next, here,
 -- what stands at a signal that is reached is its row
 pub row_given : (reach : Reach) (signal : ℕ) (given : Lanes) → lanes_at reach signal ≡ Some given
     → row_at (rows_of reach.lanes) signal ≡ given
-row_given reach signal given here = grind (arith, get_or_from_slice_get)
+row_given reach signal given here = grind (arith, get_or, get_or_from_slice_get)
 
--- and bounded where that is
-pub row_bounded : (reach : Reach) (signal limit : ℕ) → IsSome (lanes_at reach signal)
-    → ((given : Lanes) → lanes_at reach signal ≡ Some given → AllBounded limit given)
-    → AllBounded limit (row_at (rows_of reach.lanes) signal)
-row_bounded reach signal limit reached small =
-    let given = some_is (lanes_at reach signal) reached in
-    subst (AllBounded limit) (sym (row_given reach signal given.0 given.1)) (small given.0 given.1)
+-- its sums can be handed to a gate
+pub CanHand-there : (network : Network) (reach : Reach) (from gate : ℕ) (delay : Sums)
+    → CanHandOn network from reach → gate < length network.ranks.items
+    → delay ≡ get_or network.delays.items gate delay
+    → CanHand (limit_of reach) (rows_of reach.lanes) from gate delay
+CanHand-there network reach from gate delay can reader read =
+    let given = some_is (lanes_at reach from) can.reached in record {
+      known = omega (arith, can.inside, can.room.lanes);
+      reader = omega (arith, can.room.lanes);
+      sums = subst (AllBounded (limit_of reach)) (sym (row_given reach from given.0 given.1))
+          (can.small given.0 given.1);
+      small = rw read (can.room.small_delays gate delay (omega (arith, can.room.delays)));
+    }
 
 -- what stands in a lane there
 lane_there : (reach : Reach) (lane signal : ℕ) → has_number reach.reached.words.items signal ≡ true
@@ -57,20 +62,16 @@ inserted_in number words later inserted = grind (arith, eq-eqb, ne_eqb)
 
 module _ (network : Network) (old : Reach) (from gate : ℕ) (given : Lanes) (delay : Sums)
     (here : lanes_at old from ≡ Some given) (is : delay ≡ delay_at network gate) where
-  -- the sums in a lane after the gate
-  abbrev through : ℕ → Sums
-  through lane = sums_through (lane_of (row_at (rows_of old.lanes) from) lane) delay
-
   same_through : (lane : ℕ)
-      → through lane ≡ sums_through (lane_of given lane) (delay_at network gate)
+      → sums_through (lane_of (row_at (rows_of old.lanes) from) lane) delay
+      ≡ sums_through (lane_of given lane) (delay_at network gate)
   same_through lane = grind (arith, row_given)
 
   -- a gate that is reached joins them with its own
   pub IsHanded-merged : (lanes : LaneTable) → has_number old.reached.words.items gate ≡ true
       → gate < length (rows_of old.lanes) → table_limit lanes ≡ table_limit old.lanes
-      → GetsSums gate (λ lane.
-      merged_sums (lane_of (row_at (rows_of old.lanes) gate) lane) (through lane))
-      (rows_of old.lanes) (rows_of lanes) → IsHanded network given gate old
+      → IsMerged from gate delay (rows_of old.lanes) (rows_of lanes)
+      → IsHanded network given gate old
       (record { reached = old.reached; lanes = lanes; waiting = old.waiting })
   IsHanded-merged lanes reached inside limit gets =
       grind (arith, same_through, lane_there, slice_get-get_or)
@@ -81,7 +82,8 @@ module _ (network : Network) (old : Reach) (from gate : ℕ) (given : Lanes) (de
       → IsInserted gate old.reached.words.items reached.words.items
       → IsInserted (rank_at network gate) old.waiting.words.items waiting.words.items
       → table_limit lanes ≡ table_limit old.lanes
-      → GetsSums gate through (rows_of old.lanes) (rows_of lanes) → IsHanded network given gate old
+      → IsPassed from gate delay (rows_of old.lanes) (rows_of lanes)
+      → IsHanded network given gate old
       (record { reached = reached; lanes = lanes; waiting = waiting })
   IsHanded-passed reached waiting lanes first inserted waits limit gets =
       grind (arith, inserted_in, same_through)
@@ -102,10 +104,9 @@ IsOpened-first old signal reached lanes first inserted limit gets = grind (arith
 -- sums that are joined in a lane of an opened signal are marked
 pub IsMarked-joined : (old between : Reach) (lane signal : ℕ) (sums : Sums) (lanes : LaneTable)
     → lane < 16 → signal < length (rows_of between.lanes) → IsOpened signal old between
-    → table_limit lanes ≡ table_limit between.lanes → GetsSums signal (λ other. if other == lane
-    then merged_sums (lane_of (row_at (rows_of between.lanes) signal) other) sums
-    else lane_of (row_at (rows_of between.lanes) signal) other) (rows_of between.lanes)
-    (rows_of lanes) → IsMarked lane signal sums old
+    → table_limit lanes ≡ table_limit between.lanes
+    → IsJoined signal lane sums (rows_of between.lanes) (rows_of lanes)
+    → IsMarked lane signal sums old
     (record { reached = between.reached; lanes = lanes; waiting = between.waiting })
 IsMarked-joined old between lane signal sums lanes low inside opened limit gets =
     grind (arith, same_Some, lane_there, eq-eqb, ne_eqb)

@@ -5,6 +5,7 @@ mod NetworkLemmas
 mod NetworkDelays
 mod Hands
 mod NarrowLemmas
+mod RowLemmas
 mod LaneLemmas
 mod SumLemmas
 mod CarryLemmas

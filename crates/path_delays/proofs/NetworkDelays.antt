@@ -1,6 +1,6 @@
 -- The delays that a network keeps, and the limits of what they add up to.
-use Rattle.path_delays.proofs.Vocabulary.{◌≡◌, ◌+◌, ◌-◌, ◌<◌, ◌≤◌, ℕ, true, pos, IsTrue, List, take, get_or, Some, refl, sym, ◌∙◌, ap, subst, arith, slice_get, sum_by, get_or-map, take-take, sum_by_more, sum_by-take-le, slice_get_within, get_or_from_slice_get, Signal, Circuit, Tech, is_gate, IsGate, Reads, some_and, IsGate-from_Reads, Sums, Network, AreWithin, delay_limit, IsNetworkOf, gate_sums, weight_of, delay_at, limit_at, most_at, rank_at, gate_sums_at}
-use Rattle.path_delays.proofs.DelayLemmas.{gate_within}
+use Rattle.path_delays.proofs.Vocabulary.{◌≡◌, ◌+◌, ◌-◌, ◌<◌, ◌≤◌, ℕ, true, pos, IsTrue, List, take, get_or, Some, refl, sym, ◌∙◌, ap, subst, arith, slice_get, sum_by, get_or-map, take-take, sum_by_more, sum_by-take-le, slice_get_within, get_or_from_slice_get, Signal, Circuit, Tech, is_gate, IsGate, Reads, some_and, IsGate-from_Reads, Sums, Network, AreWithin, delay_limit, IsNetworkOf, gate_sums, delay_at, limit_at, most_at, rank_at, gate_sums_at}
+use Rattle.path_delays.proofs.DelayLemmas.{gate_within, weight_of}
 use Rattle.path_delays.proofs.Rooms.{limit_below, limit_rises, total_within}
 use Rattle.path_delays.proofs.SumLemmas.{within_most}
 

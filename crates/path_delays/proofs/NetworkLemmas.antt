@@ -1,5 +1,5 @@
 -- The readers of each signal, and the place of each gate in the order.
-use Rattle.path_delays.proofs.Vocabulary.{◌≡◌, ◌≢◌, ◌+◌, ◌-◌, ◌*◌, ◌<◌, ◌≤◌, ◌==◌, ℕ, zero, suc, Bool, true, false, cond, IsTrue, List, [], ◌∷◌, ◌++◌, length, map, filter, replicate, get_or, set, sum, All, AllPairs, Contains, Option, Some, None, IsSomeAnd, inl, inr, refl, sym, ◌∙◌, ap, subst, arith, slice_get, sum_by, option_map_or, cases_eq, cases_lt, eqb-true, eq-eqb, length-append, length-map, length-set, length-take, get_or-map, get_or-take, get_or-set_same, get_or-set_other, get_or_default, length-replicate, get_or-replicate, get_or_past, sum_by_more, sum_by-cons, sum_by-set, sum_by-le-sum_by, sum-map, All-nil, All-map, All-filter, All-append, All-contains, All-contains_itself, filter_passes, Contains-append_left, Contains-append_right, get_or_from_slice_get, slice_get_within, slice_get-get_or, Signal, Circuit, is_gate, gate_inputs, IsGate, Reads, Groups, group_of, HasGroups, IsTopologicalOrder, Contains-cons, IsGate-from_Reads, gate_within, AreAllReads, all_reads_by, AreReaders, HasPlaceInOrder, ArePlaces, AreRanks, weight_of, weight_at}
+use Rattle.path_delays.proofs.Vocabulary.{◌≡◌, ◌≢◌, ◌+◌, ◌-◌, ◌<◌, ◌≤◌, ◌==◌, ℕ, zero, suc, Bool, true, false, cond, IsTrue, List, [], ◌∷◌, ◌++◌, length, map, filter, replicate, get_or, set, sum, All, AllPairs, Contains, Option, Some, None, IsSomeAnd, inl, inr, refl, sym, ◌∙◌, ap, subst, arith, slice_get, sum_by, cases_eq, cases_lt, eqb-true, eq-eqb, length-append, length-map, length-set, length-take, get_or-map, get_or-take, get_or-set_same, get_or-set_other, get_or_default, length-replicate, get_or-replicate, get_or_past, sum_by_more, sum_by-cons, sum_by-set, All-nil, All-map, All-filter, All-append, All-contains, All-contains_itself, filter_passes, Contains-append_left, Contains-append_right, get_or_from_slice_get, slice_get_within, slice_get-get_or, Signal, Circuit, is_gate, gate_inputs, IsGate, Reads, Groups, group_of, HasGroups, IsTopologicalOrder, Contains-cons, IsGate-from_Reads, gate_within, AreAllReads, all_reads_by, AreReaders, HasPlaceInOrder, ArePlaces, AreRanks}
 use Rattle.std.proofs.lemmas.List.Folds.{sum_by-replicate}
 use Rattle.gate_order.specs.Grouped.{values_at}
 
@@ -256,64 +256,10 @@ distinct_length-le limit numbers once below = omega (
       count numbers (λ i d inside. below (suc i) d (omega arith)),
     )
 
--- so the gates of an order have no more weight than the signals
-weights_once : (signals : List Signal) (order : List ℕ)
-    → AllPairs (λ first second. first ≢ second) order
-    → sum_by (weight_at signals) order ≤ sum_by weight_of signals
-weights_once signals order once =
-    let weights = map weight_of signals in
-    omega (
-      arith,
-      sum_by-le-sum_by (weight_at signals) (λ n. get_or weights n 0) order
-          (λ n. omega (arith, weight_is signals n)),
-      distinct_sum-le weights order once,
-      sum-map weight_of signals,
-    )
-  where
-    weight_is : (signals : List Signal) (number : ℕ)
-        → get_or (map weight_of signals) number 0 ≡ weight_at signals number
-    weight_is [] number = refl
-    weight_is (signal ∷ signals) zero = refl
-    weight_is (signal ∷ signals) (suc number) = weight_is signals number
-
--- what all signals weigh
-weights_are : (signals : List Signal)
-    → sum_by weight_of signals ≡ 1000000 * length signals + 1000 * sum_by gate_inputs signals
-weights_are [] = refl
-weights_are (signal ∷ signals) = omega (
-  arith,
-  sum_by-cons weight_of signal signals,
-  sum_by-cons gate_inputs signal signals,
-  weights_are signals,
-)
-
--- a circuit's signals
-pub weights_within : (circuit : Circuit) → sum_by weight_of circuit.signals ≤ 65799144000
-weights_within circuit = grind (arith, weights_are)
-
--- each gate weighs something
-weights_of_gates : (signals : List Signal) (gates : List ℕ) → All (IsGate signals) gates
-    → 1000000 * length gates ≤ sum_by (weight_at signals) gates
-weights_of_gates signals [] all = omega arith
-weights_of_gates signals (gate ∷ gates) all =
-    omega (
-      arith,
-      sum_by-cons (weight_at signals) gate gates,
-      at (slice_get signals gate) (all 0 gate (omega arith)),
-      weights_of_gates signals gates (λ i d inside. all (suc i) d (omega arith)),
-    )
-  where
-    at : (o : Option Signal) → IsSomeAnd o (λ signal. IsTrue (is_gate signal.kind))
-        → 1000000 ≤ option_map_or weight_of o 0
-    at None none = absurd none
-    at (Some signal) is_one = omega arith
-
--- so there are few of them
+-- so there are few gates
 pub few_gates : (circuit : Circuit) (order : List ℕ) → IsTopologicalOrder circuit.signals order
-    → length order ≤ 65799
-few_gates circuit order sorted = omega (
-  arith,
-  weights_of_gates circuit.signals order sorted.gates,
-  weights_once circuit.signals order sorted.once,
-  weights_within circuit,
-)
+    → length order ≤ 65537
+few_gates circuit order sorted =
+    let few = distinct_length-le (length circuit.signals) order sorted.once (λ i d inside.
+    gate_within circuit.signals (get_or order i d) (sorted.gates i d inside)) in
+    grind (arith, few, circuit.valid.few_signals)

@@ -1,8 +1,8 @@
 -- Room for a walk over a network.
-use Rattle.path_delays.proofs.Vocabulary.{◌≡◌, ◌≢◌, ◌+◌, ◌*◌, ◌^◌, ◌<◌, ◌≤◌, ℕ, zero, suc, ℤ, ◌-ℤ◌, ◌≤ℤ◌, List, [], ◌∷◌, length, map, take, get_or, All, AllPairs, refl, sym, ◌∙◌, ap, subst, arith, if◌then◌else◌, int_max, slice_index_or, sum_by, cases_lt, length-map, take_all, get_or-le-sum_by, sum_by_more, sum_by-cons, sum_by-le-sum_by, sum_by-take-le, sum-map, All-map, Contains-get_or, slice_get_within, ints, Signal, Circuit, Tech, group_of, Sums, Network, Reach, AreWithin, delay_limit, IsLeftAfter, IsNetworkOf, gate_sums, weight_of, narrow_limit, rows_of, HasReachRoom, limit_at, limit_of, most_at, most_of, no_delay, rank_at}
-use Rattle.std.specs.Prelude.{true, false, Bool}
-use Rattle.path_delays.proofs.DelayLemmas.{gate_within}
-use Rattle.path_delays.proofs.NetworkLemmas.{distinct_sum-le, reader_within, weights_within}
+use Rattle.path_delays.proofs.Vocabulary.{◌≡◌, ◌≢◌, ◌+◌, ◌*◌, ◌^◌, ◌<◌, ◌≤◌, ℕ, zero, suc, ℤ, ◌-ℤ◌, ◌≤ℤ◌, List, [], ◌∷◌, length, map, take, get_or, All, AllPairs, refl, sym, ◌∙◌, ap, subst, arith, if◌then◌else◌, int_max, slice_index_or, sum_by, cases_lt, length-map, take_all, get_or-le-sum_by, sum_by_more, sum_by-cons, sum_by-le-sum_by, sum_by-take-le, sum-map, All-map, Contains-get_or, slice_get_within, ints, Signal, Circuit, Tech, group_of, Sums, Network, Reach, AreWithin, delay_limit, IsNetworkOf, gate_sums, narrow_limit, rows_of, HasReachRoom, limit_at, limit_of, most_at, most_of, no_delay, rank_at}
+use Rattle.std.specs.Prelude.{true, false, Bool, pos, ◌+ℤ◌}
+use Rattle.path_delays.proofs.DelayLemmas.{gate_within, weight_of, weights_within}
+use Rattle.path_delays.proofs.NetworkLemmas.{distinct_sum-le, reader_within}
 use Rattle.path_delays.proofs.SumLemmas.{most_below, most_is, within_most}
 
 -- sums within a limit are within a higher one
@@ -47,6 +47,11 @@ mosts_weigh tech (signal ∷ signals) = omega (
   most_below (weight_of signal) (gate_sums tech signal) (gate_within tech signal),
   mosts_weigh tech signals,
 )
+
+-- so much is left for further delays where all are short
+pub record IsLeftAfter (delays : List Sums) (left : ℤ) : Type 0 where
+  pub above : pos 0 ≤ℤ left
+  pub sum : (pos (sum_by most_of delays) +ℤ left) ≡ pos 535870911
 
 -- one delay more leaves less
 pub IsLeftAfter-more : (delays : List Sums) (passed : ℕ) (left most : ℤ) (other : Sums)

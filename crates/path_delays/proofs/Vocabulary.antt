@@ -38,14 +38,14 @@ pub use Rattle.gate_order.specs.declared.groups.Groups.{Groups}
 pub use Rattle.path_delays.specs.Captured.{AreCapturedBy, AreAllCaptures, AreCapturersOf, AreCapturedBelow}
 pub use Rattle.path_delays.specs.Capturings.{IsCapturer, HasCaptureRoom, IsSameCapturing, AreAllReached, AreGathered, IsCapturingOf}
 pub use Rattle.path_delays.specs.Carrying.{along, AreCarried, AreExtremesIfAny, AreShownBy, Comes, IsJoinedAt, StandsAt, AreExtremesOf, AreLaunchedBy, gate_sums_at, start_sums}
-pub use Rattle.path_delays.specs.CyclePaths.{FitsRoom, IsPathWithin, KeepsPaths, pair_of, path_signals}
+pub use Rattle.path_delays.specs.CyclePaths.{FitsRoom, IsPathWithin, KeepsPaths, pair_of}
 pub use Rattle.path_delays.specs.ExtremePaths.{IsExtremeIfAny, delay_by, extreme_of, IsNoFurther, IsFurthest, IsExtremePath}
-pub use Rattle.path_delays.specs.Handing.{delay_at, lane_at, lanes_at, rank_at, HasReachRoom, IsSameRoom, IsHanded, IsMarked, IsOpened, AreHanded, limit_at, most_at, limit_of, most_of, no_delay, sums_at, waits_at, IsCleared, IsStarted, IsHandedOn}
+pub use Rattle.path_delays.specs.Handing.{delay_at, lane_at, lanes_at, rank_at, CanHandOn, HasReachRoom, IsSameRoom, IsHanded, IsMarked, IsOpened, AreHanded, limit_at, most_at, limit_of, most_of, no_delay, sums_at, waits_at, IsCleared, IsStarted, IsHandedOn}
 pub use Rattle.path_delays.specs.JoinedPairs.{IsJoinedBy, AreDelaysBetween, ListsPairsBefore, MeetsLimit, ShowsTooMany, pair_limit, IsDelayBetween, ArePairs}
 pub use Rattle.path_delays.specs.LaneParts.{AllBounded, lane_of}
-pub use Rattle.path_delays.specs.LaneTables.{GetsSums, row_at, rows_of, table_limit, lane_in}
+pub use Rattle.path_delays.specs.LaneTables.{CanHand, GetsSums, IsJoined, IsMerged, IsPassed, lane_in, row_at, rows_of, table_limit}
 pub use Rattle.path_delays.specs.NarrowParts.{ArePassable, greatest_in, least_in, narrow_limit, wide_greatest, wide_lanes, wide_least}
-pub use Rattle.path_delays.specs.Networks.{gate_sums, weight_of, AreInputs, AreInputsBelow, AreRanks, IsNetworkOf, AreAllReads, all_reads_by, AreReaders, HasPlaceInOrder, ArePlaces, weight_at, IsLeftAfter, AreCapturedUpTo}
+pub use Rattle.path_delays.specs.Networks.{gate_sums, AreInputs, AreInputsBelow, AreRanks, IsNetworkOf, AreAllReads, all_reads_by, AreReaders, HasPlaceInOrder, ArePlaces, AreCapturedUpTo}
 pub use Rattle.path_delays.specs.NumberSets.{has_number, AreInserted, AreListed, IsLowestTaken, IsInserted, IsCommon, IsFirstFilled}
 pub use Rattle.path_delays.specs.Reaches.{IsChain, IsReach, AreExtreme}
 pub use Rattle.path_delays.specs.SumParts.{AreAround, IsAround, either_sums, joined_sums, merged_sums, sums_through, AreWithin, no_sums, AreBounded, AreMissing, delay_limit, some_sums}

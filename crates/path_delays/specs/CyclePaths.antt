@@ -7,10 +7,6 @@ use Rattle.cts_model.specs.timing.ConstraintPaths.{ArePathsWithin, GivesWeight}
 use Rattle.path_delays.specs.declared.walk.Walk.{Walk}
 use Rattle.path_delays.specs.WalkParts.{HasReachBetween}
 
--- the limit on the signals of all paths
-abbrev pub path_signals : ℕ
-path_signals = 4096
-
 -- the register that launches along a constraint's paths, and the one that captures
 abbrev pub pair_of : Constraint → ℕ × ℕ
 pair_of constraint = if constraint.setup then (constraint.tail, constraint.head)

@@ -1,6 +1,6 @@
 -- Sums of delays that a walk holds, and how they are handed from a signal to the gates that read
 -- it.
-use Rattle.std.specs.Prelude.{◌≡◌, ◌≢◌, ◌<◌, ◌≤◌, ◌+◌, ◌*◌, ◌^◌, ◌==◌, ◌&&◌, ◌||◌, ℕ, Bool, true, false, pos, nat_abs, List, [], ◌∷◌, length, take, All, Option, Some, None, is_none, if◌then◌else◌, slice_get, slice_index, slice_index_or}
+use Rattle.std.specs.Prelude.{◌≡◌, ◌≢◌, ◌<◌, ◌≤◌, ◌+◌, ◌*◌, ◌^◌, ◌==◌, ◌&&◌, ◌||◌, ℕ, Bool, true, false, pos, nat_abs, List, [], ◌∷◌, length, take, All, Option, Some, None, IsSome, is_none, if◌then◌else◌, slice_get, slice_index, slice_index_or}
 use Rattle.std.specs.Int.{int_max}
 use Rattle.std.specs.List.{sum_by}
 use Rattle.std.specs.Option.{option_and_then, option_map, unwrap_or}
@@ -10,7 +10,7 @@ use Rattle.path_delays.specs.declared.sums.Sums.{Sums}
 use Rattle.path_delays.specs.declared.network.Network.{Network}
 use Rattle.path_delays.specs.declared.reach.Reach.{Reach}
 use Rattle.path_delays.specs.NumberSets.{has_number}
-use Rattle.path_delays.specs.LaneParts.{lane_of}
+use Rattle.path_delays.specs.LaneParts.{AllBounded, lane_of}
 use Rattle.path_delays.specs.LaneTables.{rows_of, table_limit}
 use Rattle.path_delays.specs.SumParts.{AreWithin, delay_limit, joined_sums, merged_sums, no_sums, some_sums, sums_through}
 
@@ -73,6 +73,19 @@ pub record HasReachRoom (network : Network) (reach : Reach) : Type 0 where
   pub reached : length network.ranks.items < 64 * length reach.reached.words.items
   pub waiting : (gate : ℕ) → rank_at network gate < 64 * length reach.waiting.words.items
   pub small : 64 * length reach.waiting.words.items < 2 ^ 32
+
+-- a signal that is reached can hand on its sums, which are within the limit
+pub record CanHandOn (network : Network) (signal : ℕ) (reach : Reach) : Type 0 where
+  pub room : HasReachRoom network reach
+  pub inside : signal < length network.ranks.items
+  pub reached : IsSome (lanes_at reach signal)
+  pub small : (given : Lanes) → lanes_at reach signal ≡ Some given
+      → AllBounded (limit_of reach) given
+
+-- room for the sums to a signal
+pub record HasRoomAt (signal : ℕ) (reach : Reach) : Type 0 where
+  pub row : signal < length (rows_of reach.lanes)
+  pub bit : signal < 64 * length reach.reached.words.items
 
 -- as much room as before
 pub record IsSameRoom (old new : Reach) : Type 0 where

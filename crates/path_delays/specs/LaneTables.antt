@@ -1,18 +1,18 @@
--- The sums to each signal, in lanes of one width.
-use Rattle.std.specs.Prelude.{◌≡◌, ◌≢◌, ◌<◌, ℕ, List, [], length, map, Option, Some, slice_get, slice_index_or}
+-- The sums to each signal, in a row of lanes each.
+use Rattle.std.specs.Prelude.{◌≡◌, ◌≢◌, ◌<◌, ◌==◌, ℕ, List, [], length, map, Option, Some, if◌then◌else◌, slice_get, slice_index_or}
 use Rattle.std.specs.Option.{option_map}
 use Rattle.path_delays.specs.declared.sums.Sums.{Sums}
 use Rattle.path_delays.specs.declared.lanes.Lanes.{Lanes}
 use Rattle.path_delays.specs.declared.lane_table.LaneTable.{LaneTable}
 use Rattle.path_delays.specs.declared.lane_table.LaneTable.TheVariants.{Narrow, Wide}
-use Rattle.path_delays.specs.SumParts.{delay_limit}
-use Rattle.path_delays.specs.LaneParts.{lane_of}
+use Rattle.path_delays.specs.LaneParts.{AllBounded, lane_of}
 use Rattle.path_delays.specs.NarrowParts.{narrow_limit, wide_lanes}
+use Rattle.path_delays.specs.SumParts.{AreWithin, delay_limit, merged_sums, sums_through}
 
 -- the lanes of each signal
 abbrev pub rows_of : LaneTable → List Lanes
 rows_of (Narrow rows) = map wide_lanes rows.items
-rows_of (Wide rows) = rows.items
+rows_of (Wide rows) = map (λ lanes. lanes) rows.items
 
 -- they hold sums up to this many ticks
 abbrev pub table_limit : LaneTable → ℕ
@@ -32,3 +32,26 @@ pub record GetsSums (signal : ℕ) (sums : ℕ → Sums) (old new : List Lanes) 
   pub covers : length new ≡ length old
   pub at : (lane : ℕ) → lane < 16 → lane_in new signal lane ≡ Some (sums lane)
   pub others : (other : ℕ) → other ≢ signal → slice_get new other ≡ slice_get old other
+
+-- in one lane it gets the least and the greatest of both
+abbrev pub IsJoined : (signal lane : ℕ) → Sums → (old new : List Lanes) → Type 0
+IsJoined signal lane sums old new = GetsSums signal (λ other. if other == lane
+    then merged_sums (lane_of (row_at old signal) other) sums
+    else lane_of (row_at old signal) other) old new
+
+-- the sums of one signal can be handed to another after a delay
+pub record CanHand (limit : ℕ) (rows : List Lanes) (from to : ℕ) (delay : Sums) : Type 0 where
+  pub known : from < length rows
+  pub reader : to < length rows
+  pub sums : AllBounded limit (row_at rows from)
+  pub small : AreWithin limit delay
+
+-- the other one gets them
+abbrev pub IsPassed : (from to : ℕ) → Sums → (old new : List Lanes) → Type 0
+IsPassed from to delay old new =
+    GetsSums to (λ lane. sums_through (lane_of (row_at old from) lane) delay) old new
+
+-- the other one gets the least and the greatest of them and its own
+abbrev pub IsMerged : (from to : ℕ) → Sums → (old new : List Lanes) → Type 0
+IsMerged from to delay old new = GetsSums to (λ lane. merged_sums (lane_of (row_at old to) lane)
+    (sums_through (lane_of (row_at old from) lane) delay)) old new

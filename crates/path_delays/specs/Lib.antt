@@ -17,3 +17,4 @@ pub mod TimedCircuits
 pub mod Windows
 pub mod WindowParts
 pub mod CyclePaths
+pub mod Vocabulary

@@ -1,8 +1,7 @@
 -- What walks over a circuit go by: the readers of each signal, the order of the gates and their
 -- delays.
-use Rattle.std.specs.Prelude.{◌≡◌, ◌≢◌, ◌<◌, ◌≤◌, ◌+◌, ◌-◌, ◌*◌, ◌+ℤ◌, ◌≤ℤ◌, ◌↔◌, ℕ, ℤ, pos, List, [], length, map, take, All, AllPairs, Contains, Some, if◌then◌else◌, slice_get, slice_index}
+use Rattle.std.specs.Prelude.{◌≡◌, ◌≢◌, ◌<◌, ◌≤◌, ◌+◌, ◌-◌, ◌↔◌, ℕ, pos, List, [], length, map, take, All, AllPairs, Contains, Some, if◌then◌else◌, slice_get, slice_index}
 use Rattle.std.specs.List.{sum_by}
-use Rattle.std.specs.Option.{option_map_or}
 use Rattle.cts_model.specs.declared.signal.Signal.{Signal}
 use Rattle.cts_model.specs.declared.circuit.Circuit.{Circuit}
 use Rattle.cts_model.specs.declared.tech.Tech.{Tech}
@@ -14,7 +13,7 @@ use Rattle.gate_order.specs.declared.groups.Groups.{Groups}
 use Rattle.gate_order.specs.GroupParts.{bounds_of, group_of}
 use Rattle.path_delays.specs.declared.sums.Sums.{Sums}
 use Rattle.path_delays.specs.declared.network.Network.{Network}
-use Rattle.path_delays.specs.Handing.{most_of, rank_at}
+use Rattle.path_delays.specs.Handing.{rank_at}
 
 -- the pairs of a signal that is read and a gate that reads it, of all gates below a number
 pub record AreAllReads (signals : List Signal) (below : ℕ) (pairs : List (ℕ × ℕ)) : Type 0 where
@@ -66,13 +65,6 @@ gate_sums tech signal = if is_gate signal.kind
     })
     else (record { least = pos 0; greatest = pos 0 })
 
--- no delay of a gate is more
-abbrev pub weight_of : Signal → ℕ
-weight_of signal = 1000000 + 1000 * gate_inputs signal
-
-abbrev pub weight_at : List Signal → ℕ → ℕ
-weight_at signals number = option_map_or weight_of (slice_get signals number) 0
-
 -- these are the primary inputs
 abbrev pub AreInputs : Circuit → List ℕ → Type 0
 AreInputs circuit inputs = (signal : ℕ) → Contains inputs signal ↔ IsInput circuit signal
@@ -86,11 +78,6 @@ AreInputsBelow circuit below inputs =
 abbrev pub AreCapturedUpTo : Circuit → Network → (register top : ℕ) → Type 0
 AreCapturedUpTo circuit network register top =
     (signal : ℕ) → Captures circuit register signal → rank_at network signal ≤ top
-
--- so much is left for further delays where all are short
-pub record IsLeftAfter (delays : List Sums) (left : ℤ) : Type 0 where
-  pub above : pos 0 ≤ℤ left
-  pub sum : (pos (sum_by most_of delays) +ℤ left) ≡ pos 535870911
 
 -- the readers, the ranks, the delays and the inputs of a circuit
 pub record IsNetworkOf (circuit : Circuit) (tech : Tech) (network : Network) : Type 0 where

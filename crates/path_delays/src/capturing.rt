@@ -1,7 +1,5 @@
 ghost use Rattle.std.specs.Prelude.{◌≡◌, ◌<◌, ◌≤◌, All, IfOk, OnOk, length};
-ghost use Rattle.cts_model.specs.declared.circuit.Circuit.{Circuit};
-ghost use Rattle.path_delays.specs.Captured.{AreCapturedBy};
-ghost use Rattle.path_delays.specs.Capturings.{IsCapture, registers_of};
+ghost use Rattle.path_delays.specs.Vocabulary.{Circuit, AreCapturedBy, IsCapture, registers_of, AreGathered, HasCaptureRoom, IsCapturingOf};
 
 use crate::captures::{captured_signals, capturers};
 use crate::lanes::LANES;
@@ -83,8 +81,6 @@ fn capture_of(walk: &Walk, register: u32, captured: &[u32]) -> Capture
 }
 
 impl Capturing {
-    ghost use Rattle.path_delays.specs.Capturings.{AreGathered, HasCaptureRoom, IsCapturingOf};
-
     /// No registers yet, with room for those of a circuit.
     pub(crate) fn new(alloc: Global, circuit: &Circuit) -> Result<Capturing, NoMemory>
         ensures { IfOk result (IsCapturingOf circuit.now) }

@@ -1,72 +1,40 @@
 ghost use Rattle.std.specs.Prelude.{◌≡◌, ◌<◌, ◌≤◌, All, IfOk, length};
-ghost use Rattle.cts_model.specs.declared.tech.Tech.{Tech};
-ghost use Rattle.cts_model.specs.timing.ConstraintPaths.{ArePathsWithin};
-ghost use Rattle.cts_model.specs.timing.Constraints.{IsConstraintOf};
-ghost use Rattle.path_delays.specs.CyclePaths.{FitsRoom, IsPathWithin, IsReachedAlong, AreReachedAlong, KeepsPaths, pair_of, path_signals};
-ghost use Rattle.path_delays.specs.WalkParts.{HasRanksOf, IsRoomFor};
+ghost use Rattle.path_delays.specs.Vocabulary.{Tech, IsConstraintOf, FitsRoom, IsPathWithin, IsReachedAlong, AreReachedAlong, KeepsPaths, pair_of, HasRanksOf, IsRoomFor};
 
 use crate::extreme_path::path_back;
-use crate::lanes::{LANES, block_end};
+use crate::lanes::{LANES, Lane};
+use crate::path_search::Paths;
 use crate::walk::Walk;
 use cts_base::{Listed, NoMemory};
 use cts_model::{Circuit, Constraint, Tech};
 use std::alloc::Global;
 
-/// How many signals the paths of a cycle have together, at most.
-const MAX_SIGNALS: usize = 4_096;
-
-/// The paths of these constraints, looked for sixteen at a time in the same room.
-pub(crate) fn paths_within(
-    walk: &mut Walk,
-    alloc: Global,
-    circuit: &Circuit,
-    tech: &Tech,
-    constraints: &[Constraint],
-) -> Result<Listed<Listed<u32>>, NoMemory>
-    requires room { IsRoomFor circuit.now tech.now walk.old }
-    requires each { All (IsConstraintOf circuit.now tech.now) constraints.now }
-    ensures paths { IfOk result
-        (ArePathsWithin circuit.now tech.now path_signals constraints.now) }
-    ensures room { IsRoomFor circuit.now tech.now walk.new }
-{
-    let mut paths = Listed::new(alloc);
-    let mut room = MAX_SIGNALS;
-    let mut first = 0;
-    while first < constraints.len() {
-        let end = block_end(first, constraints.len());
-        let block = &constraints[first..end];
-        room = push_paths(&mut paths, walk, alloc, circuit, tech, block, room)?;
-        first = end;
+impl Paths<'_> {
+    /// Puts the paths of up to sixteen constraints last, as far as there is room for so many
+    /// signals. It tells the room that is left.
+    pub(crate) fn push_paths(
+        &mut self,
+        paths: &mut Listed<Listed<u32>>,
+        alloc: Global,
+        block: &[Constraint],
+        room: usize,
+    ) -> Result<usize, NoMemory>
+        requires few { length block.now ≤ 16 }
+        requires each { All (IsConstraintOf self.old.circuit self.old.tech) block.now }
+        ensures paths { IfOk result
+            (KeepsPaths self.old.circuit self.old.tech block.now room paths.old paths.new) }
+        ensures same { self.new ≡ self.old }
+    {
+        walk_along(&mut self.walk, self.circuit, self.tech, block, room);
+        let mut left = room;
+        for (lane, constraint) in block.iter().enumerate() {
+            let lane = Lane { number: lane };
+            let path = path_within(&self.walk, alloc, self.circuit, lane, constraint, left)?;
+            left -= path.len();
+            paths.push(path)?;
+        }
+        Ok(left)
     }
-    Ok(paths)
-}
-
-// Puts the paths of up to sixteen constraints last, as far as there is room for so many signals. It
-// tells the room that is left.
-fn push_paths(
-    paths: &mut Listed<Listed<u32>>,
-    walk: &mut Walk,
-    alloc: Global,
-    circuit: &Circuit,
-    tech: &Tech,
-    block: &[Constraint],
-    room: usize,
-) -> Result<usize, NoMemory>
-    requires room { IsRoomFor circuit.now tech.now walk.old }
-    requires few { length block.now ≤ 16 }
-    requires each { All (IsConstraintOf circuit.now tech.now) block.now }
-    ensures paths { IfOk result
-        (KeepsPaths circuit.now tech.now block.now room paths.old paths.new) }
-    ensures room { IsRoomFor circuit.now tech.now walk.new }
-{
-    walk_along(walk, circuit, tech, block, room);
-    let mut left = room;
-    for (lane, constraint) in block.iter().enumerate() {
-        let path = path_within(walk, alloc, circuit, lane, constraint, left)?;
-        left -= path.len();
-        paths.push(path)?;
-    }
-    Ok(left)
 }
 
 // Walks along the paths of up to sixteen constraints, if there is any room.
@@ -93,16 +61,15 @@ fn path_within(
     walk: &Walk,
     alloc: Global,
     circuit: &Circuit,
-    lane: usize,
+    lane: Lane,
     constraint: &Constraint,
     room: usize,
 ) -> Result<Listed<u32>, NoMemory>
     requires ranks { HasRanksOf circuit.now walk.now }
-    requires lane { lane < 16 }
     requires to { (pair_of constraint.now).1 < length circuit.now.registers }
     ensures path { IfOk result (λ path. (tech : Tech)
         → IsConstraintOf circuit.now tech constraint.now
-        → (0 < room → IsReachedAlong circuit.now tech constraint.now lane walk.now)
+        → (0 < room → IsReachedAlong circuit.now tech constraint.now lane.number walk.now)
         → IsPathWithin circuit.now tech constraint.now room path) }
     ensures few { IfOk result (λ path. length path ≤ room) }
 {

@@ -1,9 +1,7 @@
 ghost use Rattle.std.specs.Prelude.{◌≡◌, ◌<◌, ◌↔◌, ℕ, length, Contains, IfOk, IsTrue, IsSomeAnd};
-ghost use Rattle.cts_model.specs.declared.tech.Tech.{Tech};
-ghost use Rattle.cts_model.specs.netlist.Paths.{Reads};
-ghost use Rattle.path_delays.specs.WalkParts.{HasRanksOf, HasReachBetween};
-ghost use Rattle.path_delays.specs.ExtremePaths.{IsExtremeIfAny, IsFurthestIfAny, extreme_of};
+ghost use Rattle.path_delays.specs.Vocabulary.{Tech, Reads, HasRanksOf, HasReachBetween, IsExtremeIfAny, IsFurthestIfAny, extreme_of};
 
+use crate::lanes::Lane;
 use crate::pair::captured_sums;
 use crate::sums::Sums;
 use crate::walk::Walk;
@@ -16,15 +14,14 @@ pub(crate) fn path_back(
     walk: &Walk,
     alloc: Global,
     circuit: &Circuit,
-    lane: usize,
+    lane: Lane,
     to: u32,
     greatest: bool,
 ) -> Result<Option<Listed<u32>>, NoMemory>
     requires ranks { HasRanksOf circuit.now walk.now }
-    requires lane { lane < 16 }
     requires to { to < length circuit.now.registers }
     ensures { IfOk result (λ found. (tech : Tech) (from : ℕ)
-        → HasReachBetween circuit.now tech from to lane walk.now
+        → HasReachBetween circuit.now tech from to lane.number walk.now
         → IsExtremeIfAny circuit.now tech from to greatest found) }
 {
     let captured = circuit.register_signal(to as usize).fan_in.as_slice();
@@ -45,13 +42,13 @@ pub(crate) fn path_back(
 fn furthest_read(
     walk: &Walk,
     circuit: &Circuit,
-    lane: usize,
+    lane: Lane,
     gate: u32,
     greatest: bool,
 ) -> Option<u32>
-    requires lane { lane < 16 }
-    requires gate { gate < length circuit.now.signals }
-    ensures { IsFurthestIfAny walk.now lane (Reads circuit.now.signals gate) greatest result }
+    requires { gate < length circuit.now.signals }
+    ensures { IsFurthestIfAny walk.now lane.number (Reads circuit.now.signals gate) greatest
+        result }
 {
     let signal = &circuit.signals.as_slice()[gate as usize];
     if signal.kind.is_gate() {
@@ -62,9 +59,8 @@ fn furthest_read(
 }
 
 // The first of some signals that a walk found furthest in a lane.
-fn furthest(walk: &Walk, lane: usize, signals: &[u32], greatest: bool) -> Option<u32>
-    requires { lane < 16 }
-    ensures { IsFurthestIfAny walk.now lane (Contains signals.now) greatest result }
+fn furthest(walk: &Walk, lane: Lane, signals: &[u32], greatest: bool) -> Option<u32>
+    ensures { IsFurthestIfAny walk.now lane.number (Contains signals.now) greatest result }
 {
     let sums = captured_sums(walk, lane, signals)?;
     for signal in signals {

@@ -1,6 +1,5 @@
 ghost use Rattle.std.specs.Prelude.{◌≡◌, ◌<◌, IsTrue, IfOk, length, map};
-ghost use Rattle.cts_model.specs.netlist.Kinds.{is_gate, is_valid};
-ghost use Rattle.path_delays.specs.Networks.{gate_sums};
+ghost use Rattle.path_delays.specs.Vocabulary.{is_valid, gate_sums};
 
 use crate::sums::Sums;
 use cts_base::NoMemory;

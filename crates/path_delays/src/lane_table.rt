@@ -1,8 +1,9 @@
-ghost use Rattle.std.specs.Prelude.{◌≡◌, ◌<◌, ◌==◌, ℕ, false, None, IfOk, length, if◌then◌else◌, slice_get, slice_index_or};
-ghost use Rattle.std.specs.Option.{option_map, option_and_then};
+ghost use Rattle.std.specs.Prelude.{◌≡◌, ◌<◌, ℕ, false, None, IfOk, length, map, if◌then◌else◌, slice_index_or};
+ghost use Rattle.path_delays.specs.Vocabulary.{option_and_then, CanHand, GetsSums, IsJoined, IsMerged, IsPassed, lane_in, rows_of, table_limit, narrow_limit, AreWithin, delay_limit, no_sums, some_sums};
 
-use crate::lanes::Lanes;
+use crate::lanes::{Lane, Lanes};
 use crate::narrow_lanes::NarrowLanes;
+use crate::row::Row;
 use crate::sums::Sums;
 use cts_base::NoMemory;
 use std::alloc::Global;
@@ -19,11 +20,6 @@ pub(crate) enum LaneTable {
 }
 
 impl LaneTable {
-    ghost use Rattle.path_delays.specs.LaneTables.{GetsSums, lane_in, table_limit, row_at, rows_of};
-    ghost use Rattle.path_delays.specs.LaneParts.{AllBounded, lane_of};
-    ghost use Rattle.path_delays.specs.NarrowParts.{narrow_limit};
-    ghost use Rattle.path_delays.specs.SumParts.{AreWithin, delay_limit, merged_sums, no_sums, some_sums, sums_through};
-
     /// Lanes for so many signals, of 32 bits for a short network.
     pub(crate) fn new(alloc: Global, signals: usize, short: bool) -> Result<LaneTable, NoMemory>
         ensures rows { IfOk result (λ table. length (rows_of table) ≡ signals) }
@@ -38,13 +34,13 @@ impl LaneTable {
     }
 
     /// The sums in a lane of a signal, if there are any.
-    pub(crate) fn sums(&self, signal: usize, lane: usize) -> Option<Sums>
-        requires { lane < 16 }
-        ensures { result ≡ option_and_then some_sums (lane_in (rows_of self.now) signal lane) }
+    pub(crate) fn sums(&self, signal: usize, lane: Lane) -> Option<Sums>
+        ensures { result
+            ≡ option_and_then some_sums (lane_in (rows_of self.now) signal lane.number) }
     {
         match self {
-            LaneTable::Narrow(rows) => rows.get(signal)?.in_lane(lane),
-            LaneTable::Wide(rows) => rows.get(signal)?.in_lane(lane),
+            LaneTable::Narrow(rows) => in_lane(rows, signal, lane),
+            LaneTable::Wide(rows) => in_lane(rows, signal, lane),
         }
     }
 
@@ -54,14 +50,8 @@ impl LaneTable {
             → option_and_then some_sums (lane_in (rows_of self.now) signal lane) ≡ None }
     {
         match self {
-            LaneTable::Narrow(rows) => match rows.get(signal) {
-                Some(lanes) => lanes.filled(),
-                None => [true; 16],
-            },
-            LaneTable::Wide(rows) => match rows.get(signal) {
-                Some(lanes) => lanes.filled(),
-                None => [true; 16],
-            },
+            LaneTable::Narrow(rows) => filled(rows, signal),
+            LaneTable::Wide(rows) => filled(rows, signal),
         }
     }
 
@@ -72,76 +62,99 @@ impl LaneTable {
         ensures sums { GetsSums signal (λ lane. no_sums) (rows_of self.old) (rows_of self.new) }
     {
         match self {
-            LaneTable::Narrow(rows) => rows[signal] = NarrowLanes::none(),
-            LaneTable::Wide(rows) => rows[signal] = Lanes::none(),
+            LaneTable::Narrow(rows) => clear(rows, signal),
+            LaneTable::Wide(rows) => clear(rows, signal),
         }
     }
 
     /// Joins sums in a lane of a signal.
-    pub(crate) fn join(&mut self, signal: usize, lane: usize, sums: Sums)
+    pub(crate) fn join(&mut self, signal: usize, lane: Lane, sums: Sums)
         requires signal { signal < length (rows_of self.old) }
-        requires lane { lane < 16 }
         requires sums { AreWithin (table_limit self.old) sums }
         ensures limit { table_limit self.new ≡ table_limit self.old }
-        ensures sums { GetsSums signal (λ other. if other == lane
-            then merged_sums (lane_of (row_at (rows_of self.old) signal) other) sums
-            else lane_of (row_at (rows_of self.old) signal) other)
-            (rows_of self.old) (rows_of self.new) }
+        ensures sums { IsJoined signal lane.number sums (rows_of self.old) (rows_of self.new) }
     {
         match self {
-            LaneTable::Narrow(rows) => rows[signal].join(lane, sums),
-            LaneTable::Wide(rows) => rows[signal].join(lane, sums),
+            LaneTable::Narrow(rows) => join(rows, signal, lane, sums),
+            LaneTable::Wide(rows) => join(rows, signal, lane, sums),
         }
     }
 
     /// Gives one signal the sums of another after a delay.
     pub(crate) fn pass(&mut self, from: usize, to: usize, delay: Sums)
-        requires from { from < length (rows_of self.old) }
-        requires to { to < length (rows_of self.old) }
-        requires sums { AllBounded (table_limit self.old) (row_at (rows_of self.old) from) }
-        requires delay { AreWithin (table_limit self.old) delay }
+        requires { CanHand (table_limit self.old) (rows_of self.old) from to delay }
         ensures limit { table_limit self.new ≡ table_limit self.old }
-        ensures sums { GetsSums to
-            (λ lane. sums_through (lane_of (row_at (rows_of self.old) from) lane) delay)
-            (rows_of self.old) (rows_of self.new) }
+        ensures sums { IsPassed from to delay (rows_of self.old) (rows_of self.new) }
     {
         match self {
-            LaneTable::Narrow(rows) => {
-                let mut sums = rows[from];
-                sums.pass(delay);
-                rows[to] = sums;
-            }
-            LaneTable::Wide(rows) => {
-                let mut sums = rows[from];
-                sums.pass(delay);
-                rows[to] = sums;
-            }
+            LaneTable::Narrow(rows) => pass(rows, from, to, delay),
+            LaneTable::Wide(rows) => pass(rows, from, to, delay),
         }
     }
 
     /// Joins the sums of a signal after a delay with those of another one.
     pub(crate) fn merge(&mut self, from: usize, to: usize, delay: Sums)
-        requires from { from < length (rows_of self.old) }
-        requires to { to < length (rows_of self.old) }
-        requires sums { AllBounded (table_limit self.old) (row_at (rows_of self.old) from) }
-        requires delay { AreWithin (table_limit self.old) delay }
+        requires { CanHand (table_limit self.old) (rows_of self.old) from to delay }
         ensures limit { table_limit self.new ≡ table_limit self.old }
-        ensures sums { GetsSums to (λ lane.
-            merged_sums (lane_of (row_at (rows_of self.old) to) lane)
-            (sums_through (lane_of (row_at (rows_of self.old) from) lane) delay))
-            (rows_of self.old) (rows_of self.new) }
+        ensures sums { IsMerged from to delay (rows_of self.old) (rows_of self.new) }
     {
         match self {
-            LaneTable::Narrow(rows) => {
-                let mut sums = rows[from];
-                sums.pass(delay);
-                rows[to].merge(&sums);
-            }
-            LaneTable::Wide(rows) => {
-                let mut sums = rows[from];
-                sums.pass(delay);
-                rows[to].merge(&sums);
-            }
+            LaneTable::Narrow(rows) => merge(rows, from, to, delay),
+            LaneTable::Wide(rows) => merge(rows, from, to, delay),
         }
     }
+}
+
+// The steps over rows of one width.
+
+fn in_lane<R: Row>(rows: &Vec<R>, signal: usize, lane: Lane) -> Option<Sums>
+    ensures { result
+        ≡ option_and_then some_sums (lane_in (map R.wide rows.now.items) signal lane.number) }
+{
+    rows.get(signal)?.in_lane(lane)
+}
+
+fn filled<R: Row>(rows: &Vec<R>, signal: usize) -> [bool; 16]
+    ensures { (lane : ℕ) → lane < 16 → slice_index_or result lane false ≡ false
+        → option_and_then some_sums (lane_in (map R.wide rows.now.items) signal lane) ≡ None }
+{
+    match rows.get(signal) {
+        Some(lanes) => lanes.filled(),
+        None => [true; 16],
+    }
+}
+
+fn clear<R: Row>(rows: &mut Vec<R>, signal: usize)
+    requires { signal < length (map R.wide rows.old.items) }
+    ensures { GetsSums signal (λ lane. no_sums) (map R.wide rows.old.items)
+        (map R.wide rows.new.items) }
+{
+    rows[signal] = R::none();
+}
+
+fn join<R: Row>(rows: &mut Vec<R>, signal: usize, lane: Lane, sums: Sums)
+    requires signal { signal < length (map R.wide rows.old.items) }
+    requires sums { AreWithin R.limit sums }
+    ensures { IsJoined signal lane.number sums (map R.wide rows.old.items)
+        (map R.wide rows.new.items) }
+{
+    rows[signal].join(lane, sums);
+}
+
+fn pass<R: Row>(rows: &mut Vec<R>, from: usize, to: usize, delay: Sums)
+    requires { CanHand R.limit (map R.wide rows.old.items) from to delay }
+    ensures { IsPassed from to delay (map R.wide rows.old.items) (map R.wide rows.new.items) }
+{
+    let mut sums = rows[from];
+    sums.pass(delay);
+    rows[to] = sums;
+}
+
+fn merge<R: Row>(rows: &mut Vec<R>, from: usize, to: usize, delay: Sums)
+    requires { CanHand R.limit (map R.wide rows.old.items) from to delay }
+    ensures { IsMerged from to delay (map R.wide rows.old.items) (map R.wide rows.new.items) }
+{
+    let mut sums = rows[from];
+    sums.pass(delay);
+    rows[to].merge(&sums);
 }

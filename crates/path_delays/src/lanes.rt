@@ -1,9 +1,17 @@
-ghost use Rattle.std.specs.Prelude.{◌≡◌, ◌<◌, ◌≤◌, ◌+◌, ◌≢◌, ℕ, false, None, slice_index_or};
+ghost use Rattle.std.specs.Prelude.{◌<◌, ◌≤◌, ◌+◌};
 
+use crate::row::Row;
 use crate::sums::Sums;
 
 /// From how many registers a walk goes at once.
 pub(crate) const LANES: usize = 16;
+
+/// A lane of a walk.
+#[derive(Clone, Copy)]
+pub(crate) struct Lane {
+    pub(crate) number: usize,
+    pub(crate) ghost low: { number < 16 },
+}
 
 /// The sums to a signal from several registers, in a lane each.
 #[derive(Clone, Copy, Debug)]
@@ -11,32 +19,24 @@ pub(crate) struct Lanes {
     pub(crate) sums: [Sums; 16],
 }
 
-impl Lanes {
-    ghost use Rattle.path_delays.specs.SumParts.{AreWithin, delay_limit, merged_sums, no_sums, some_sums, sums_through};
-    ghost use Rattle.path_delays.specs.LaneParts.{AllBounded, lane_of};
+impl Row for Lanes {
+    ghost use Rattle.path_delays.specs.SumParts.{delay_limit};
 
-    /// No sums in any lane.
-    pub(crate) fn none() -> Lanes
-        ensures { (lane : ℕ) → lane_of result lane ≡ no_sums }
-    {
+    ghost wide = { λ lanes. lanes };
+
+    ghost limit = { delay_limit };
+
+    fn none() -> Lanes {
         Lanes {
             sums: [Sums::none(); 16],
         }
     }
 
-    /// The sums in a lane, if there are any.
-    pub(crate) fn in_lane(&self, lane: usize) -> Option<Sums>
-        requires { lane < 16 }
-        ensures { result ≡ some_sums (lane_of self.now lane) }
-    {
-        self.sums[lane].some()
+    fn in_lane(&self, lane: Lane) -> Option<Sums> {
+        self.sums[lane.number].some()
     }
 
-    /// False in lanes that have no sums.
-    pub(crate) fn filled(&self) -> [bool; 16]
-        ensures { (lane : ℕ) → lane < 16 → slice_index_or result lane false ≡ false
-            → some_sums (lane_of self.now lane) ≡ None }
-    {
+    fn filled(&self) -> [bool; 16] {
         let mut filled = [false; LANES];
         for lane in 0..LANES {
             filled[lane] = self.sums[lane].greatest >= 0;
@@ -44,33 +44,17 @@ impl Lanes {
         filled
     }
 
-    /// In one lane the least and the greatest of both.
-    pub(crate) fn join(&mut self, lane: usize, sums: Sums)
-        requires { lane < 16 }
-        ensures at { lane_of self.new lane ≡ merged_sums (lane_of self.old lane) sums }
-        ensures others { (other : ℕ) → other ≢ lane
-            → lane_of self.new other ≡ lane_of self.old other }
-    {
-        self.sums[lane] = self.sums[lane].merged(sums);
+    fn join(&mut self, lane: Lane, sums: Sums) {
+        self.sums[lane.number] = self.sums[lane.number].merged(sums);
     }
 
-    /// Becomes the sums after one more gate.
-    pub(crate) fn pass(&mut self, delay: Sums)
-        requires sums { AllBounded delay_limit self.old }
-        requires delay { AreWithin delay_limit delay }
-        ensures { (lane : ℕ) → lane < 16
-            → lane_of self.new lane ≡ sums_through (lane_of self.old lane) delay }
-    {
+    fn pass(&mut self, delay: Sums) {
         for lane in 0..LANES {
             self.sums[lane] = self.sums[lane].through(delay);
         }
     }
 
-    /// In each lane the least and the greatest of both.
-    pub(crate) fn merge(&mut self, other: &Lanes)
-        ensures { (lane : ℕ) → lane < 16 → lane_of self.new lane
-            ≡ merged_sums (lane_of self.old lane) (lane_of other.now lane) }
-    {
+    fn merge(&mut self, other: &Lanes) {
         for lane in 0..LANES {
             self.sums[lane] = self.sums[lane].merged(other.sums[lane]);
         }

@@ -1,9 +1,7 @@
 ghost use Rattle.std.specs.Prelude.{◌≡◌, ◌<◌, ◌++◌, if◌then◌else◌, [], ◌∷◌, IfOk, OnOk, length};
+ghost use Rattle.path_delays.specs.Vocabulary.{AreLaunchedBy, AreInputs, AreWithin};
 ghost use Rattle.cts_model.specs.netlist.Kinds as kinds;
 ghost use Rattle.path_delays.specs.Carrying as carrying;
-ghost use Rattle.path_delays.specs.Carrying.{AreLaunchedBy};
-ghost use Rattle.path_delays.specs.Networks.{AreInputs};
-ghost use Rattle.path_delays.specs.SumParts.{AreWithin};
 
 use crate::sums::Sums;
 use cts_base::NoMemory;

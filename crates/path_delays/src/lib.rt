@@ -19,6 +19,7 @@ mod pair;
 mod pairs;
 mod path_search;
 mod reach;
+mod row;
 mod single_calls;
 mod sums;
 mod sweep;

@@ -1,8 +1,8 @@
-ghost use Rattle.std.specs.Prelude.{◌≡◌, ◌<◌, ◌≢◌, ℕ, false, None, pos, ◌+ℤ◌, ◌≤ℤ◌, slice_index_or};
-ghost use Rattle.std.specs.Int.{int_min, int_max};
-ghost use Rattle.cts_model.specs.table.Tables.{IsWithin};
+ghost use Rattle.std.specs.Prelude.{◌≡◌, pos, ◌+ℤ◌, ◌≤ℤ◌};
+ghost use Rattle.path_delays.specs.Vocabulary.{int_min, int_max, IsWithin, narrow_limit, wide_lanes};
 
-use crate::lanes::LANES;
+use crate::lanes::{LANES, Lane};
+use crate::row::Row;
 use crate::sums::Sums;
 
 /// The least sum of 32 bits that stands for none, and below it the greatest.
@@ -67,30 +67,24 @@ pub(crate) struct NarrowLanes {
     greatest: [Ticks; 16],
 }
 
-impl NarrowLanes {
-    ghost use Rattle.path_delays.specs.NarrowParts.{ArePassable, greatest_in, least_in, narrow_limit, sums_in};
-    ghost use Rattle.path_delays.specs.SumParts.{AreWithin, no_sums, some_sums};
+impl Row for NarrowLanes {
+    ghost wide = { wide_lanes };
 
-    /// No sums in any lane.
-    pub(crate) fn none() -> NarrowLanes
-        ensures { (lane : ℕ) → lane < 16 → sums_in result lane ≡ no_sums }
-    {
+    ghost limit = { narrow_limit };
+
+    fn none() -> NarrowLanes {
         NarrowLanes {
             least: [Ticks { ticks: FAR }; 16],
             greatest: [Ticks { ticks: -FAR }; 16],
         }
     }
 
-    /// The sums in a lane, if there are any.
-    pub(crate) fn in_lane(&self, lane: usize) -> Option<Sums>
-        requires { lane < 16 }
-        ensures { result ≡ some_sums (sums_in self.now lane) }
-    {
-        let greatest = i64::from(self.greatest[lane].ticks);
+    fn in_lane(&self, lane: Lane) -> Option<Sums> {
+        let greatest = i64::from(self.greatest[lane.number].ticks);
         if greatest < 0 {
             return None;
         }
-        let least = i64::from(self.least[lane].ticks);
+        let least = i64::from(self.least[lane.number].ticks);
         let least = if least < i64::from(FAR) {
             least
         } else {
@@ -99,11 +93,7 @@ impl NarrowLanes {
         Some(Sums { least, greatest })
     }
 
-    /// False in lanes that have no sums.
-    pub(crate) fn filled(&self) -> [bool; 16]
-        ensures { (lane : ℕ) → lane < 16 → slice_index_or result lane false ≡ false
-            → some_sums (sums_in self.now lane) ≡ None }
-    {
+    fn filled(&self) -> [bool; 16] {
         let mut filled = [false; LANES];
         for lane in 0..LANES {
             filled[lane] = self.greatest[lane].ticks >= 0;
@@ -111,30 +101,12 @@ impl NarrowLanes {
         filled
     }
 
-    /// In one lane the least and the greatest of both.
-    pub(crate) fn join(&mut self, lane: usize, sums: Sums)
-        requires lane { lane < 16 }
-        requires sums { AreWithin narrow_limit sums }
-        ensures least { least_in self.new lane ≡ int_min (least_in self.old lane) sums.least }
-        ensures greatest { greatest_in self.new lane
-            ≡ int_max (greatest_in self.old lane) sums.greatest }
-        ensures others { (other : ℕ) → other ≢ lane
-            → (least_in self.new other ≡ least_in self.old other)
-            × (greatest_in self.new other ≡ greatest_in self.old other) }
-    {
-        self.least[lane] = self.least[lane].lesser(narrow(sums.least));
-        self.greatest[lane] = self.greatest[lane].greater(narrow(sums.greatest));
+    fn join(&mut self, lane: Lane, sums: Sums) {
+        self.least[lane.number] = self.least[lane.number].lesser(narrow(sums.least));
+        self.greatest[lane.number] = self.greatest[lane.number].greater(narrow(sums.greatest));
     }
 
-    /// Becomes the sums after one more gate.
-    pub(crate) fn pass(&mut self, delay: Sums)
-        requires sums { (lane : ℕ) → lane < 16 → ArePassable self.old lane }
-        requires delay { AreWithin narrow_limit delay }
-        ensures least { (lane : ℕ) → lane < 16
-            → least_in self.new lane ≡ least_in self.old lane +ℤ delay.least }
-        ensures greatest { (lane : ℕ) → lane < 16
-            → greatest_in self.new lane ≡ greatest_in self.old lane +ℤ delay.greatest }
-    {
+    fn pass(&mut self, delay: Sums) {
         let least = narrow(delay.least);
         let greatest = narrow(delay.greatest);
         for lane in 0..LANES {
@@ -143,13 +115,7 @@ impl NarrowLanes {
         }
     }
 
-    /// In each lane the least and the greatest of both.
-    pub(crate) fn merge(&mut self, other: &NarrowLanes)
-        ensures least { (lane : ℕ) → lane < 16 → least_in self.new lane
-            ≡ int_min (least_in self.old lane) (least_in other.now lane) }
-        ensures greatest { (lane : ℕ) → lane < 16 → greatest_in self.new lane
-            ≡ int_max (greatest_in self.old lane) (greatest_in other.now lane) }
-    {
+    fn merge(&mut self, other: &NarrowLanes) {
         for lane in 0..LANES {
             self.least[lane] = self.least[lane].lesser(other.least[lane]);
             self.greatest[lane] = self.greatest[lane].greater(other.greatest[lane]);

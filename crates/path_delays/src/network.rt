@@ -1,4 +1,5 @@
 ghost use Rattle.std.specs.Prelude.{◌≡◌, ◌≢◌, ◌<◌, ◌≤◌, ◌+◌, ◌++◌, ◌^◌, true, IfOk, OnOk, All, AllPairs, length, sum_by};
+ghost use Rattle.path_delays.specs.Vocabulary.{IsLevelsOf, AreWithin, delay_limit, most_of, rank_at, narrow_limit, AreAllReads, AreCapturedUpTo, ArePlaces, IsNetworkOf, all_reads_by};
 
 use crate::gate_delays::gate_delays;
 use crate::launching::input_signals;
@@ -24,12 +25,6 @@ pub(crate) struct Network {
 }
 
 impl Network {
-    ghost use Rattle.gate_order.specs.LevelParts.{IsLevelsOf};
-    ghost use Rattle.path_delays.specs.SumParts.{AreWithin, delay_limit};
-    ghost use Rattle.path_delays.specs.Handing.{most_of, rank_at};
-    ghost use Rattle.path_delays.specs.NarrowParts.{narrow_limit};
-    ghost use Rattle.path_delays.specs.Networks.{AreAllReads, AreCapturedUpTo, ArePlaces, IsNetworkOf, all_reads_by};
-
     /// The network of a circuit: passes over its inputs and its gates.
     pub(crate) fn new(
         alloc: Global,
@@ -70,8 +65,8 @@ impl Network {
         top
     }
 
-    /// Whether the greatest delays of all gates together, and a million ticks for the register, are
-    /// at most 2^29 - 1, so that lanes of 32 bits hold the sums along each path.
+    /// True only where the greatest delays of all gates together, and a million ticks for the
+    /// register, are at most 2^29 - 1, so that lanes of 32 bits hold the sums along each path.
     pub(crate) fn is_short(&self) -> bool
         requires { All (AreWithin delay_limit) self.now.delays.items }
         ensures { result ≡ true → 1000000 + sum_by most_of self.now.delays.items ≤ narrow_limit }

@@ -1,14 +1,7 @@
 ghost use Rattle.std.specs.Prelude.{◌≡◌, ◌<◌, ℕ, List, length, Contains, IfOk};
-ghost use Rattle.cts_model.specs.declared.circuit.Circuit.{Circuit};
-ghost use Rattle.cts_model.specs.declared.tech.Tech.{Tech};
-ghost use Rattle.gate_order.specs.LevelParts.{IsLevelsOf};
-ghost use Rattle.path_delays.specs.declared.walk.Walk.{Walk};
-ghost use Rattle.path_delays.specs.WalkParts.{ReachesEach, sums_to};
-ghost use Rattle.path_delays.specs.Captured.{AreCapturedBy};
-ghost use Rattle.path_delays.specs.Carrying.{AreExtremesIfAny, StandsAt};
-ghost use Rattle.path_delays.specs.SumParts.{either_sums};
-ghost use Rattle.path_delays.specs.JoinedPairs.{IsJoinedBy};
+ghost use Rattle.path_delays.specs.Vocabulary.{Circuit, Tech, IsLevelsOf, Walk, ReachesEach, sums_to, AreCapturedBy, AreExtremesIfAny, StandsAt, either_sums, IsJoinedBy};
 
+use crate::lanes::Lane;
 use crate::sums::Sums;
 use crate::walk::Walk;
 use cts_base::NoMemory;
@@ -38,7 +31,7 @@ pub fn pair_delay(
     let mut walk = Walk::new(alloc, circuit, levels, tech)?;
     walk.walk_between(circuit, tech, &[(from, to)]);
     let captured = circuit.register_signal(to as usize).fan_in.as_slice();
-    Ok(joined_pair(from, to, captured_sums(&walk, 0, captured)))
+    Ok(joined_pair(from, to, captured_sums(&walk, Lane { number: 0 }, captured)))
 }
 
 /// The delays from one register to another, of what a walk found at the signals that this captures.
@@ -58,9 +51,9 @@ pub(crate) fn joined_pair(from: u32, to: u32, found: Option<Sums>) -> Option<Pai
 }
 
 /// The least and the greatest of what a walk found at some signals in a lane.
-pub(crate) fn captured_sums(walk: &Walk, lane: usize, signals: &[u32]) -> Option<Sums>
-    requires { lane < 16 }
-    ensures { AreExtremesIfAny (StandsAt (sums_to walk.now lane) (Contains signals.now)) result }
+pub(crate) fn captured_sums(walk: &Walk, lane: Lane, signals: &[u32]) -> Option<Sums>
+    ensures { AreExtremesIfAny (StandsAt (sums_to walk.now lane.number) (Contains signals.now))
+        result }
 {
     if let [signal] = signals {
         return walk.sums(lane, *signal);

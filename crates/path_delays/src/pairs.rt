@@ -1,79 +1,58 @@
-ghost use Rattle.std.specs.Prelude.{◌≡◌, ◌<◌, ◌≤◌, ◌+◌, ◌-◌, ◌++◌, ℕ, All, length, vec_len, IfOk, IfErr, OnOk};
-ghost use Rattle.std.specs.Option.{option_to_list};
-ghost use Rattle.cts_model.specs.declared.tech.Tech.{Tech};
-ghost use Rattle.cts_model.specs.timing.PairLists.{JoinsMoreThan};
-ghost use Rattle.path_delays.specs.WalkParts.{HasReach, IsRoomFor};
-ghost use Rattle.path_delays.specs.Capturings.{AreAllReached, IsCapture, IsCapturingOf, registers_of};
-ghost use Rattle.path_delays.specs.JoinedPairs.{ListsPairsBefore, ArePairs, ShowsTooMany, MeetsLimit, pair_limit};
+ghost use Rattle.std.specs.Prelude.{◌≡◌, ◌<◌, ◌≤◌, ◌+◌, ◌-◌, ◌++◌, ℕ, All, length, vec_len, IfErr, OnOk};
+ghost use Rattle.path_delays.specs.Vocabulary.{option_to_list, Tech, HasReach, IsRoomFor, AreAllReached, IsCapture, IsCapturingOf, registers_of, ListsPairsBefore, ShowsTooMany, MeetsLimit, pair_limit};
 
 use crate::PairFault;
 use crate::capturing::{Capture, Capturing, list_captures};
-use crate::lanes::{LANES, block_end};
+use crate::lanes::{LANES, Lane};
 use crate::pair::{captured_sums, joined_pair};
-use crate::walk::Walk;
-use cts_base::Listed;
+use crate::path_search::Paths;
+use crate::walk::{Launches, Walk};
 use cts_model::{Circuit, PairDelay, Tech};
-use std::alloc::Global;
 
 /// How many joined pairs of registers a circuit may have.
 const MAX_PAIRS: usize = 1_048_576;
 
-/// The delays of all joined pairs, walked to from sixteen registers at a time in the same room.
-pub(crate) fn walked_pairs(
-    walk: &mut Walk,
-    alloc: Global,
-    circuit: &Circuit,
-    tech: &Tech,
-) -> Result<Listed<PairDelay>, PairFault>
-    requires { IsRoomFor circuit.now tech.now walk.old }
-    ensures ok { IfOk result (ArePairs circuit.now tech.now) }
-    ensures few { IfOk result (λ _. JoinsMoreThan circuit.now pair_limit → ⊥) }
-    ensures many { IfErr result (ShowsTooMany circuit.now) }
-    ensures room { IsRoomFor circuit.now tech.now walk.new }
-{
-    let mut capturing = Capturing::new(alloc, circuit)?;
-    let mut pairs = Vec::new(alloc);
-    let mut first = 0;
-    while first < circuit.registers.len() {
-        let end = block_end(first, circuit.registers.len());
-        push_block(&mut pairs, walk, &mut capturing, circuit, tech, first, end)?;
-        first = end;
-    }
-    Ok(Listed::from_vec(pairs))
+/// The pairs that are listed so far.
+#[derive(Drop)]
+pub(crate) struct PairList {
+    pub(crate) list: Vec<PairDelay>,
+    pub(crate) ghost few: { vec_len list ≤ pair_limit },
 }
 
-// Appends the pairs of up to sixteen registers that launch, from one number up to another.
-fn push_block(
-    pairs: &mut Vec<PairDelay>,
-    walk: &mut Walk,
-    capturing: &mut Capturing,
-    circuit: &Circuit,
-    tech: &Tech,
-    first: usize,
-    end: usize,
-) -> Result<(), PairFault>
-    requires after { first < end }
-    requires short { end ≤ first + 16 }
-    requires within { end ≤ length circuit.now.registers }
-    requires room { IsRoomFor circuit.now tech.now walk.old }
-    requires capturing { IsCapturingOf circuit.now capturing.old }
-    requires listed { ListsPairsBefore circuit.now tech.now first 0 pairs.old.items }
-    requires few { vec_len pairs.old ≤ pair_limit }
-    ensures room { IsRoomFor circuit.now tech.now walk.new }
-    ensures capturing { OnOk result (IsCapturingOf circuit.now capturing.new) }
-    ensures listed { OnOk result (ListsPairsBefore circuit.now tech.now end 0 pairs.new.items) }
-    ensures few { OnOk result (vec_len pairs.new ≤ pair_limit) }
-    ensures many { IfErr result (ShowsTooMany circuit.now) }
-{
-    walk_block(walk, circuit, tech, first, end);
-    capturing.gather(walk)?;
-    let registers = capturing.registers.as_slice();
-    list_captures(&mut capturing.captures, walk, circuit, registers)?;
-    let captures = capturing.captures.as_slice();
-    for from in first..end {
-        push_pairs_from(pairs, walk, captures, circuit, from - first, from as u32)?;
+impl Paths<'_> {
+    /// Appends the pairs of up to sixteen registers that launch, from one number up to another.
+    pub(crate) fn push_block(
+        &mut self,
+        pairs: &mut PairList,
+        capturing: &mut Capturing,
+        first: usize,
+        end: usize,
+    ) -> Result<(), PairFault>
+        requires after { first < end }
+        requires short { end ≤ first + 16 }
+        requires within { end ≤ length self.old.circuit.registers }
+        requires capturing { IsCapturingOf self.old.circuit capturing.old }
+        requires listed { ListsPairsBefore self.old.circuit self.old.tech first 0
+            pairs.old.list.items }
+        ensures same { self.new ≡ self.old }
+        ensures capturing { OnOk result (IsCapturingOf self.old.circuit capturing.new) }
+        ensures listed { OnOk result
+            (ListsPairsBefore self.old.circuit self.old.tech end 0 pairs.new.list.items) }
+        ensures many { IfErr result (ShowsTooMany self.old.circuit) }
+    {
+        walk_block(&mut self.walk, self.circuit, self.tech, first, end);
+        capturing.gather(&self.walk)?;
+        let registers = capturing.registers.as_slice();
+        list_captures(&mut capturing.captures, &self.walk, self.circuit, registers)?;
+        let captures = capturing.captures.as_slice();
+        for from in first..end {
+            let lane = Lane {
+                number: from - first,
+            };
+            push_pairs_from(pairs, &self.walk, captures, self.circuit, lane, from as u32)?;
+        }
+        Ok(())
     }
-    Ok(())
 }
 
 // Walks from up to sixteen registers, from one number up to another.
@@ -90,34 +69,36 @@ fn walk_block(walk: &mut Walk, circuit: &Circuit, tech: &Tech, first: usize, end
     for from in first..end {
         registers[from - first] = from as u32;
     }
-    walk.walk_from(circuit, tech, &registers[..end - first]);
+    walk.walk_from(&Launches {
+        circuit,
+        tech,
+        registers: &registers[..end - first],
+    });
 }
 
 // Appends the pairs of the register that launches, which is walked from in a lane, with what the
 // walk found at the registers that it reaches.
 fn push_pairs_from(
-    pairs: &mut Vec<PairDelay>,
+    pairs: &mut PairList,
     walk: &Walk,
     captures: &[Capture],
     circuit: &Circuit,
-    lane: usize,
+    lane: Lane,
     from: u32,
 ) -> Result<(), PairFault>
-    requires lane { lane < 16 }
     requires registers { AreAllReached circuit.now from (registers_of captures.now) }
     requires captures { All (IsCapture circuit.now walk.now) captures.now }
-    requires few { vec_len pairs.old ≤ pair_limit }
-    ensures few { OnOk result (vec_len pairs.new ≤ pair_limit) }
-    ensures listed { OnOk result ((tech : Tech) → HasReach circuit.now tech from lane walk.now
-        → ListsPairsBefore circuit.now tech from 0 pairs.old.items
-        → ListsPairsBefore circuit.now tech (from + 1) 0 pairs.new.items) }
+    ensures listed { OnOk result ((tech : Tech)
+        → HasReach circuit.now tech from lane.number walk.now
+        → ListsPairsBefore circuit.now tech from 0 pairs.old.list.items
+        → ListsPairsBefore circuit.now tech (from + 1) 0 pairs.new.list.items) }
     ensures many { IfErr result (λ fault. (tech : Tech)
-        → HasReach circuit.now tech from lane walk.now
-        → ListsPairsBefore circuit.now tech from 0 pairs.old.items
+        → HasReach circuit.now tech from lane.number walk.now
+        → ListsPairsBefore circuit.now tech from 0 pairs.old.list.items
         → ShowsTooMany circuit.now fault) }
 {
     for capture in captures {
-        if !capture.lanes[lane] {
+        if !capture.lanes[lane.number] {
             continue;
         }
         push_found(pairs, walk, circuit, lane, from, capture)?;
@@ -128,24 +109,22 @@ fn push_pairs_from(
 // Appends the pair of the register in a lane and another one, of which a walk found this, if there
 // is one.
 fn push_found(
-    pairs: &mut Vec<PairDelay>,
+    pairs: &mut PairList,
     walk: &Walk,
     circuit: &Circuit,
-    lane: usize,
+    lane: Lane,
     from: u32,
     capture: &Capture,
 ) -> Result<(), PairFault>
-    requires lane { lane < 16 }
     requires to { capture.now.register < length circuit.now.registers }
     requires capture { IsCapture circuit.now walk.now capture.now }
-    requires few { vec_len pairs.old ≤ pair_limit }
-    ensures few { OnOk result (vec_len pairs.new ≤ pair_limit) }
-    ensures listed { OnOk result ((tech : Tech) → HasReach circuit.now tech from lane walk.now
-        → ListsPairsBefore circuit.now tech from capture.now.register pairs.old.items
-        → ListsPairsBefore circuit.now tech from (capture.now.register + 1) pairs.new.items) }
+    ensures listed { OnOk result ((tech : Tech)
+        → HasReach circuit.now tech from lane.number walk.now
+        → ListsPairsBefore circuit.now tech from capture.now.register pairs.old.list.items
+        → ListsPairsBefore circuit.now tech from (capture.now.register + 1) pairs.new.list.items) }
     ensures many { IfErr result (λ fault. (tech : Tech)
-        → HasReach circuit.now tech from lane walk.now
-        → ListsPairsBefore circuit.now tech from capture.now.register pairs.old.items
+        → HasReach circuit.now tech from lane.number walk.now
+        → ListsPairsBefore circuit.now tech from capture.now.register pairs.old.list.items
         → ShowsTooMany circuit.now fault) }
 {
     let to = capture.register;
@@ -162,17 +141,16 @@ fn push_found(
 }
 
 // Appends a pair, if there is one.
-fn push_joined(pairs: &mut Vec<PairDelay>, joined: Option<PairDelay>) -> Result<(), PairFault>
-    requires { vec_len pairs.old ≤ pair_limit }
-    ensures ok { OnOk result (pairs.new.items ≡ pairs.old.items ++ option_to_list joined) }
-    ensures few { OnOk result (vec_len pairs.new ≤ pair_limit) }
-    ensures many { IfErr result (MeetsLimit joined pairs.old.items) }
+fn push_joined(pairs: &mut PairList, joined: Option<PairDelay>) -> Result<(), PairFault>
+    ensures ok { OnOk result
+        (pairs.new.list.items ≡ pairs.old.list.items ++ option_to_list joined) }
+    ensures many { IfErr result (MeetsLimit joined pairs.old.list.items) }
 {
     match joined {
         None => Ok(()),
-        Some(_) if pairs.len() >= MAX_PAIRS => Err(PairFault::TooManyPairs),
+        Some(_) if pairs.list.len() >= MAX_PAIRS => Err(PairFault::TooManyPairs),
         Some(pair) => {
-            pairs.push(pair)?;
+            pairs.list.push(pair)?;
             Ok(())
         }
     }

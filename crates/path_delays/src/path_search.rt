@@ -1,10 +1,11 @@
-ghost use Rattle.std.specs.Prelude.{◌<◌, length};
+ghost use Rattle.std.specs.Prelude.{◌≡◌, ◌<◌, All, IfErr, IfOk, length};
+ghost use Rattle.path_delays.specs.Vocabulary.{ArePathsWithin, IsConstraintOf, JoinsMoreThan, IsLevelsOf, IsExtremeIfAny, AreDelaysBetween, ArePairs, ShowsTooMany, pair_limit};
 
 use crate::PairFault;
-use crate::between::walked_delays;
-use crate::cycle_paths::paths_within;
+use crate::capturing::Capturing;
 use crate::extreme_path::path_back;
-use crate::pairs::walked_pairs;
+use crate::lanes::{Lane, block_end};
+use crate::pairs::PairList;
 use crate::walk::Walk;
 use cts_base::{Listed, NoMemory};
 use cts_model::{Circuit, Constraint, PairDelay, Tech};
@@ -12,12 +13,15 @@ use gate_order::Levels;
 use std::alloc::Global;
 use std::marker::Model;
 
+/// How many signals the paths of a cycle have together, at most.
+const MAX_SIGNALS: usize = 4_096;
+
 /// The paths of a circuit and their delays, looked for in the same room.
 #[derive(Drop)]
 pub struct Paths<'a> {
-    circuit: &'a Circuit,
-    tech: &'a Tech,
-    walk: Walk,
+    pub(crate) circuit: &'a Circuit,
+    pub(crate) tech: &'a Tech,
+    pub(crate) walk: Walk,
 }
 
 impl<'a> Model for Paths<'a> {
@@ -32,14 +36,6 @@ impl<'a> Model for Paths<'a> {
 }
 
 impl<'a> Paths<'a> {
-    ghost use Rattle.std.specs.Prelude.{◌≡◌, All, IfErr, IfOk};
-    ghost use Rattle.cts_model.specs.timing.ConstraintPaths.{ArePathsWithin};
-    ghost use Rattle.cts_model.specs.timing.Constraints.{IsConstraintOf};
-    ghost use Rattle.cts_model.specs.timing.PairLists.{JoinsMoreThan};
-    ghost use Rattle.gate_order.specs.LevelParts.{IsLevelsOf};
-    ghost use Rattle.path_delays.specs.ExtremePaths.{IsExtremeIfAny};
-    ghost use Rattle.path_delays.specs.JoinedPairs.{AreDelaysBetween, ArePairs, ShowsTooMany, pair_limit};
-
     /// The paths of a circuit. Which gates read each signal is listed once, for all of them.
     ///
     /// # Errors
@@ -76,7 +72,17 @@ impl<'a> Paths<'a> {
         ensures many { IfErr result (ShowsTooMany self.old.circuit) }
         ensures same { self.new ≡ self.old }
     {
-        walked_pairs(&mut self.walk, alloc, self.circuit, self.tech)
+        let mut capturing = Capturing::new(alloc, self.circuit)?;
+        let mut pairs = PairList {
+            list: Vec::new(alloc),
+        };
+        let mut first = 0;
+        while first < self.circuit.registers.len() {
+            let end = block_end(first, self.circuit.registers.len());
+            self.push_block(&mut pairs, &mut capturing, first, end)?;
+            first = end;
+        }
+        Ok(Listed::from_vec(pairs.list))
     }
 
     /// The delays of pairs of registers, one pair after the other, over all paths between the two.
@@ -97,7 +103,14 @@ impl<'a> Paths<'a> {
             (AreDelaysBetween self.old.circuit self.old.tech pairs.now) }
         ensures same { self.new ≡ self.old }
     {
-        walked_delays(&mut self.walk, alloc, self.circuit, self.tech, pairs)
+        let mut delays = Vec::new(alloc);
+        let mut first = 0;
+        while first < pairs.len() {
+            let end = block_end(first, pairs.len());
+            self.push_delays(&mut delays, &pairs[first..end])?;
+            first = end;
+        }
+        Ok(Listed::from_vec(delays))
     }
 
     /// The signals of a path from one register to another with the greatest delay of all, or with
@@ -121,7 +134,14 @@ impl<'a> Paths<'a> {
     {
         self.walk
             .walk_between(self.circuit, self.tech, &[(from, to)]);
-        path_back(&self.walk, alloc, self.circuit, 0, to, greatest)
+        path_back(
+            &self.walk,
+            alloc,
+            self.circuit,
+            Lane { number: 0 },
+            to,
+            greatest,
+        )
     }
 
     /// For each of some constraints a path that gives its weight: of a setup constraint one with
@@ -142,6 +162,14 @@ impl<'a> Paths<'a> {
             (ArePathsWithin self.old.circuit self.old.tech 4096 constraints.now) }
         ensures same { self.new ≡ self.old }
     {
-        paths_within(&mut self.walk, alloc, self.circuit, self.tech, constraints)
+        let mut paths = Listed::new(alloc);
+        let mut room = MAX_SIGNALS;
+        let mut first = 0;
+        while first < constraints.len() {
+            let end = block_end(first, constraints.len());
+            room = self.push_paths(&mut paths, alloc, &constraints[first..end], room)?;
+            first = end;
+        }
+        Ok(paths)
     }
 }

@@ -1,6 +1,8 @@
-ghost use Rattle.std.specs.Prelude.{◌≡◌, ◌<◌, ◌*◌, ◌^◌, Some, IfOk, IsSome, if◌then◌else◌, length};
+ghost use Rattle.std.specs.Prelude.{◌≡◌, ◌<◌, ◌*◌, ◌^◌, Some, IfOk, if◌then◌else◌, length};
+ghost use Rattle.path_delays.specs.Vocabulary.{Lanes, AreWithin, delay_limit, AllBounded, rows_of, narrow_limit, CanHandOn, HasReachRoom, HasRoomAt, IsCleared, IsHanded, IsHandedOn, IsMarked, IsOpened, IsSameRoom, IsStarted, lanes_at, limit_of, sums_at};
 
 use crate::lane_table::LaneTable;
+use crate::lanes::Lane;
 use crate::network::Network;
 use crate::number_set::NumberSet;
 use crate::sums::Sums;
@@ -19,13 +21,6 @@ pub(crate) struct Reach {
 }
 
 impl Reach {
-    ghost use Rattle.path_delays.specs.declared.lanes.Lanes.{Lanes};
-    ghost use Rattle.path_delays.specs.SumParts.{AreWithin, delay_limit};
-    ghost use Rattle.path_delays.specs.LaneParts.{AllBounded};
-    ghost use Rattle.path_delays.specs.LaneTables.{rows_of};
-    ghost use Rattle.path_delays.specs.NarrowParts.{narrow_limit};
-    ghost use Rattle.path_delays.specs.Handing.{HasReachRoom, IsCleared, IsHanded, IsHandedOn, IsMarked, IsOpened, IsSameRoom, IsStarted, lanes_at, limit_of, sums_at};
-
     /// Nothing reached yet, with room for so many signals and gates, of a short network or another.
     pub(crate) fn new(
         alloc: Global,
@@ -59,9 +54,8 @@ impl Reach {
     }
 
     /// The sums to a signal in a lane, if it is reached there.
-    pub(crate) fn sums_at(&self, lane: usize, signal: u32) -> Option<Sums>
-        requires { lane < 16 }
-        ensures { result ≡ sums_at self.now lane signal }
+    pub(crate) fn sums_at(&self, lane: Lane, signal: u32) -> Option<Sums>
+        ensures { result ≡ sums_at self.now lane.number signal }
     {
         if !self.reached.contains(signal) {
             return None;
@@ -70,14 +64,13 @@ impl Reach {
     }
 
     /// Reaches a signal in a lane, and hands its sums to its readers.
-    pub(crate) fn start(&mut self, network: &Network, lane: usize, signal: u32, sums: Sums)
+    pub(crate) fn start(&mut self, network: &Network, lane: Lane, signal: u32, sums: Sums)
         requires room { HasReachRoom network.now self.old }
-        requires lane { lane < 16 }
         requires signal { signal < length network.now.ranks.items }
         requires sums { AreWithin (limit_of self.old) sums }
         requires small { (given : Lanes)
             → lanes_at self.old signal ≡ Some given → AllBounded (limit_of self.old) given }
-        ensures started { IsStarted network.now lane signal sums self.old self.new }
+        ensures started { IsStarted network.now lane.number signal sums self.old self.new }
         ensures room { HasReachRoom network.now self.new }
     {
         self.mark(lane, signal, sums);
@@ -86,11 +79,7 @@ impl Reach {
 
     /// Hands the sums to a signal to each gate that reads it.
     pub(crate) fn hand_on(&mut self, network: &Network, signal: u32)
-        requires room { HasReachRoom network.now self.old }
-        requires signal { signal < length network.now.ranks.items }
-        requires reached { IsSome (lanes_at self.old signal) }
-        requires small { (given : Lanes)
-            → lanes_at self.old signal ≡ Some given → AllBounded (limit_of self.old) given }
+        requires { CanHandOn network.now signal self.old }
         ensures on { IsHandedOn network.now signal self.old self.new }
         ensures room { HasReachRoom network.now self.new }
     {
@@ -101,12 +90,8 @@ impl Reach {
 
     // Hands the sums to a signal to a gate: it keeps the least and the greatest of those that come.
     fn hand_to(&mut self, network: &Network, signal: u32, gate: u32)
-        requires room { HasReachRoom network.now self.old }
-        requires signal { signal < length network.now.ranks.items }
+        requires signal { CanHandOn network.now signal self.old }
         requires gate { gate < length network.now.ranks.items }
-        requires reached { IsSome (lanes_at self.old signal) }
-        requires small { (given : Lanes)
-            → lanes_at self.old signal ≡ Some given → AllBounded (limit_of self.old) given }
         ensures { (given : Lanes) → lanes_at self.old signal ≡ Some given
             → IsHanded network.now given gate self.old self.new }
     {
@@ -121,12 +106,10 @@ impl Reach {
     }
 
     // Reaches a signal in a lane.
-    fn mark(&mut self, lane: usize, signal: u32, sums: Sums)
-        requires lane { lane < 16 }
-        requires signal { signal < length (rows_of self.old.lanes) }
-        requires reached { signal < 64 * length self.old.reached.words.items }
+    fn mark(&mut self, lane: Lane, signal: u32, sums: Sums)
+        requires room { HasRoomAt signal self.old }
         requires sums { AreWithin (limit_of self.old) sums }
-        ensures { IsMarked lane signal sums self.old self.new }
+        ensures { IsMarked lane.number signal sums self.old self.new }
     {
         self.open(signal);
         self.lanes.join(signal as usize, lane, sums);
@@ -134,8 +117,7 @@ impl Reach {
 
     // Reaches a signal, with no sums where it wasn't reached.
     fn open(&mut self, signal: u32)
-        requires signal { signal < length (rows_of self.old.lanes) }
-        requires reached { signal < 64 * length self.old.reached.words.items }
+        requires { HasRoomAt signal self.old }
         ensures { IsOpened signal self.old self.new }
     {
         if !self.reached.contains(signal) {

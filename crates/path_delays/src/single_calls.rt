@@ -1,8 +1,5 @@
 ghost use Rattle.std.specs.Prelude.{◌<◌, length, All, IfErr, IfOk};
-ghost use Rattle.cts_model.specs.timing.PairLists.{JoinsMoreThan};
-ghost use Rattle.gate_order.specs.LevelParts.{IsLevelsOf};
-ghost use Rattle.path_delays.specs.ExtremePaths.{IsExtremeIfAny};
-ghost use Rattle.path_delays.specs.JoinedPairs.{AreDelaysBetween, ArePairs, ShowsTooMany, pair_limit};
+ghost use Rattle.path_delays.specs.Vocabulary.{JoinsMoreThan, IsLevelsOf, IsExtremeIfAny, AreDelaysBetween, ArePairs, ShowsTooMany, pair_limit};
 
 use crate::PairFault;
 use crate::path_search::Paths;

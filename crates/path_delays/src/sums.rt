@@ -1,4 +1,5 @@
 ghost use Rattle.std.specs.Prelude.{◌≡◌};
+ghost use Rattle.path_delays.specs.Vocabulary.{AreBounded, AreWithin, delay_limit, merged_sums, no_sums, some_sums, sums_through, extreme_of};
 
 /// The least and the greatest sum of delays along what leads from a register to a signal, in ticks.
 #[derive(Clone, Copy, Debug, PartialEq, Eq)]
@@ -8,9 +9,6 @@ pub(crate) struct Sums {
 }
 
 impl Sums {
-    ghost use Rattle.path_delays.specs.SumParts.{AreBounded, AreWithin, delay_limit, merged_sums, no_sums, some_sums, sums_through};
-    ghost use Rattle.path_delays.specs.ExtremePaths.{extreme_of};
-
     /// No sums yet: merged with others it gives those.
     pub(crate) fn none() -> Sums
         ensures { result ≡ no_sums }

@@ -1,13 +1,5 @@
 ghost use Rattle.std.specs.Prelude.{◌≡◌, ◌<◌, ◌+◌, ◌*◌, ◌^◌, ℕ, All, Contains, IfOk, IsTrue, Some, length, nat_abs, slice_set};
-ghost use Rattle.std.specs.Option.{option_map};
-ghost use Rattle.cts_model.specs.netlist.Kinds.{is_gate, is_valid};
-ghost use Rattle.cts_model.specs.table.Tables.{IsWithin};
-ghost use Rattle.gate_order.specs.LevelParts.{IsLevelsOf};
-ghost use Rattle.path_delays.specs.declared.window.Window.{Window};
-ghost use Rattle.path_delays.specs.Carrying.{AreExtremesIfAny, StandsAt};
-ghost use Rattle.path_delays.specs.Networks.{AreInputs, gate_sums};
-ghost use Rattle.path_delays.specs.Windows.{AreWindows, IsSmallSchedule, IsWindowBelow};
-ghost use Rattle.path_delays.specs.WindowParts.{AreBelow, AreCaptures, AreLaunched, ArePassed, IsGateWindow, either_window, start_window, sums_in, sums_of, window_at, window_limit};
+ghost use Rattle.path_delays.specs.Vocabulary.{option_map, is_gate, is_valid, IsBelow, IsWithin, IsLevelsOf, Window, AreExtremesIfAny, StandsAt, AreInputs, gate_sums, AreWindows, IsSmallSchedule, IsWindowBelow, AreBelow, AreCaptures, AreLaunched, ArePassed, IsGateWindow, either_window, start_window, sums_in, sums_of, window_at, window_limit};
 
 use crate::gate_delays::gate_delay;
 use crate::launching::{input_signals, launched, start_sums};
@@ -16,6 +8,17 @@ use cts_base::{Listed, NoMemory};
 use cts_model::{Circuit, Schedule, Signal, Tech};
 use gate_order::Levels;
 use std::alloc::Global;
+
+/// A circuit whose registers launch by a schedule.
+#[derive(Clone, Copy)]
+struct Sweep<'a> {
+    circuit: &'a Circuit,
+    tech: &'a Tech,
+    schedule: &'a Schedule,
+    ghost scale: { IsWithin 1 4097 schedule.now.den },
+    ghost small: { All (IsBelow (10 ^ 19)) schedule.now.at },
+    ghost registers: { length schedule.now.at ≡ length circuit.now.registers },
+}
 
 /// When what the registers launch by a schedule comes to each register, over all paths that end
 /// there. `None` comes exactly where no path does. One pass over the gates in their order, from all
@@ -38,66 +41,88 @@ pub fn arrivals(
 {
     let inputs = input_signals(alloc, circuit)?;
     let mut windows = vec![in alloc; None; circuit.signals.len()]?;
-    launch_all(&mut windows, circuit, inputs.as_slice(), tech, schedule);
-    pass_gates(&mut windows, circuit, levels, tech, schedule);
+    let sweep = Sweep {
+        circuit,
+        tech,
+        schedule,
+    };
+    sweep.launch_all(&mut windows, inputs.as_slice());
+    sweep.pass_gates(&mut windows, levels);
     captured_windows(alloc, circuit, windows.as_slice())
 }
 
-// Starts at what each register launches.
-fn launch_all(
-    windows: &mut Vec<Option<Window>>,
-    circuit: &Circuit,
-    inputs: &[u32],
-    tech: &Tech,
-    schedule: &Schedule,
-)
-    requires inputs { AreInputs circuit.now inputs.now }
-    requires schedule { IsSmallSchedule schedule.now }
-    requires registers { length schedule.now.at ≡ length circuit.now.registers }
-    requires launched { AreLaunched circuit.now tech.now schedule.now 0 windows.old.items }
-    ensures { AreLaunched circuit.now tech.now schedule.now
-        (length circuit.now.registers) windows.new.items }
-{
-    for from in 0..circuit.registers.len() {
-        launch(windows, circuit, inputs, tech, schedule, from);
+impl Sweep<'_> {
+    // Starts at what each register launches.
+    fn launch_all(&self, windows: &mut Vec<Option<Window>>, inputs: &[u32])
+        requires inputs { AreInputs self.now.circuit.now inputs.now }
+        requires launched { AreLaunched self.now.circuit.now self.now.tech.now
+            self.now.schedule.now 0 windows.old.items }
+        ensures { AreLaunched self.now.circuit.now self.now.tech.now self.now.schedule.now
+            (length self.now.circuit.now.registers) windows.new.items }
+    {
+        for from in 0..self.circuit.registers.len() {
+            self.launch(windows, inputs, from);
+        }
     }
-}
 
-// Starts at each signal that a register launches.
-fn launch(
-    windows: &mut Vec<Option<Window>>,
-    circuit: &Circuit,
-    inputs: &[u32],
-    tech: &Tech,
-    schedule: &Schedule,
-    from: usize,
-)
-    requires inputs { AreInputs circuit.now inputs.now }
-    requires schedule { IsSmallSchedule schedule.now }
-    requires registers { length schedule.now.at ≡ length circuit.now.registers }
-    requires from { from < length circuit.now.registers }
-    requires launched { AreLaunched circuit.now tech.now schedule.now from windows.old.items }
-    ensures { AreLaunched circuit.now tech.now schedule.now (from + 1) windows.new.items }
-{
-    let window = started(tech, schedule, from);
-    for signal in launched(circuit, inputs, from) {
-        put(windows, *signal, Some(window));
+    // Starts at each signal that a register launches.
+    fn launch(&self, windows: &mut Vec<Option<Window>>, inputs: &[u32], from: usize)
+        requires inputs { AreInputs self.now.circuit.now inputs.now }
+        requires from { from < length self.now.circuit.now.registers }
+        requires launched { AreLaunched self.now.circuit.now self.now.tech.now
+            self.now.schedule.now from windows.old.items }
+        ensures { AreLaunched self.now.circuit.now self.now.tech.now self.now.schedule.now
+            (from + 1) windows.new.items }
+    {
+        let window = self.started(from);
+        for signal in launched(self.circuit, inputs, from) {
+            put(windows, *signal, Some(window));
+        }
     }
-}
 
-// The window at what a register launches.
-fn started(tech: &Tech, schedule: &Schedule, from: usize) -> Window
-    requires schedule { IsSmallSchedule schedule.now }
-    requires from { from < length schedule.now.at }
-    ensures started { result ≡ start_window tech.now schedule.now from }
-    ensures small { IsWindowBelow (window_limit 0) result }
-{
-    let at = schedule.at.as_slice()[from];
-    let edge = Window {
-        earliest: at,
-        latest: at,
-    };
-    edge.suffix(start_sums(tech), schedule.den)
+    // The window at what a register launches.
+    fn started(&self, from: usize) -> Window
+        requires { from < length self.now.schedule.now.at }
+        ensures started { result ≡ start_window self.now.tech.now self.now.schedule.now from }
+        ensures small { IsWindowBelow (window_limit 0) result }
+    {
+        let at = self.schedule.at.as_slice()[from];
+        let edge = Window {
+            earliest: at,
+            latest: at,
+        };
+        edge.suffix(start_sums(self.tech), self.schedule.den)
+    }
+
+    // Puts its window at each gate, in the order of the levels.
+    fn pass_gates(&self, windows: &mut Vec<Option<Window>>, levels: &Levels)
+        requires levels { IsLevelsOf self.now.circuit.now levels.now }
+        requires launched { AreLaunched self.now.circuit.now self.now.tech.now
+            self.now.schedule.now (length self.now.circuit.now.registers) windows.old.items }
+        ensures { ArePassed self.now.circuit.now self.now.tech.now self.now.schedule.now
+            levels.now (length levels.now) windows.new.items }
+    {
+        for gate in levels.gates() {
+            let signal = &self.circuit.signals.as_slice()[*gate as usize];
+            let window = self.gate_window(windows.as_slice(), signal);
+            put(windows, *gate, window);
+        }
+    }
+
+    // The window of a gate, from those of the signals that it reads.
+    fn gate_window(&self, windows: &[Option<Window>], gate: &Signal) -> Option<Window>
+        requires gate { IsTrue (is_gate gate.now.kind) }
+        requires valid_inputs { IsTrue (is_valid gate.now.kind (length gate.now.fan_in)) }
+        requires reads { All (λ number. number < length windows.now) gate.now.fan_in }
+        requires small { AreBelow (2 * 10 ^ 19) windows.now }
+        ensures suffix { IsGateWindow windows.now gate.now.fan_in
+            (nat_abs self.now.schedule.now.den) (gate_sums self.now.tech.now gate.now) result }
+        ensures small { (bound : ℕ) (window : Window) → AreBelow bound windows.now
+            → result ≡ Some window → IsWindowBelow (bound + 10 ^ 10) window }
+    {
+        let read = merged_windows(windows, gate.fan_in.as_slice())?;
+        Some(read.suffix(gate_delay(self.tech, gate), self.schedule.den))
+    }
 }
 
 // Puts what is found at a signal, beside what stands there.
@@ -108,49 +133,6 @@ fn put(windows: &mut Vec<Option<Window>>, number: u32, found: Option<Window>)
 {
     let known = windows[number as usize];
     windows[number as usize] = Window::either(known, found);
-}
-
-// Puts its window at each gate, in the order of the levels.
-fn pass_gates(
-    windows: &mut Vec<Option<Window>>,
-    circuit: &Circuit,
-    levels: &Levels,
-    tech: &Tech,
-    schedule: &Schedule,
-)
-    requires levels { IsLevelsOf circuit.now levels.now }
-    requires schedule { IsSmallSchedule schedule.now }
-    requires launched { AreLaunched circuit.now tech.now schedule.now
-        (length circuit.now.registers) windows.old.items }
-    ensures { ArePassed circuit.now tech.now schedule.now levels.now
-        (length levels.now) windows.new.items }
-{
-    for gate in levels.gates() {
-        let signal = &circuit.signals.as_slice()[*gate as usize];
-        let window = gate_window(windows.as_slice(), signal, tech, schedule.den);
-        put(windows, *gate, window);
-    }
-}
-
-// The window of a gate, from those of the signals that it reads.
-fn gate_window(
-    windows: &[Option<Window>],
-    gate: &Signal,
-    tech: &Tech,
-    scale: i128,
-) -> Option<Window>
-    requires gate { IsTrue (is_gate gate.now.kind) }
-    requires valid_inputs { IsTrue (is_valid gate.now.kind (length gate.now.fan_in)) }
-    requires reads { All (λ number. number < length windows.now) gate.now.fan_in }
-    requires scale { IsWithin 1 4097 scale }
-    requires small { AreBelow (2 * 10 ^ 19) windows.now }
-    ensures suffix { IsGateWindow windows.now gate.now.fan_in (nat_abs scale)
-        (gate_sums tech.now gate.now) result }
-    ensures small { (bound : ℕ) (window : Window) → AreBelow bound windows.now
-        → result ≡ Some window → IsWindowBelow (bound + 10 ^ 10) window }
-{
-    let read = merged_windows(windows, gate.fan_in.as_slice())?;
-    Some(read.suffix(gate_delay(tech, gate), scale))
 }
 
 // The window over some signals.

@@ -1,6 +1,7 @@
 ghost use Rattle.std.specs.Prelude.{◌≡◌, ◌<◌, ◌≤◌, ◌+◌, ℕ, false, None, All, IfOk, IsTrue, length, slice_index_or};
+ghost use Rattle.path_delays.specs.Vocabulary.{IsLevelsOf, IsCommon, has_number, HaveReach, HaveReachBetween, IsRoomFor, sums_to, IsNetworkOf, HasReachRoom, IsCleared, HaveReachedUpTo, IsSpreadBelow};
 
-use crate::lanes::LANES;
+use crate::lanes::{LANES, Lane};
 use crate::launching::{launched, start_sums};
 use crate::network::Network;
 use crate::number_set::NumberSet;
@@ -11,6 +12,16 @@ use cts_model::{Circuit, Tech};
 use gate_order::Levels;
 use std::alloc::Global;
 
+/// Up to sixteen registers of a circuit, from which a walk goes in a lane each.
+#[derive(Clone, Copy)]
+pub(crate) struct Launches<'a> {
+    pub(crate) circuit: &'a Circuit,
+    pub(crate) tech: &'a Tech,
+    pub(crate) registers: &'a [u32],
+    pub(crate) ghost few: { length registers.now ≤ 16 },
+    pub(crate) ghost within: { All (λ from. from < length circuit.now.registers) registers.now },
+}
+
 /// Room for walks from registers, used again from walk to walk.
 #[derive(Drop)]
 pub(crate) struct Walk {
@@ -19,10 +30,6 @@ pub(crate) struct Walk {
 }
 
 impl Walk {
-    ghost use Rattle.gate_order.specs.LevelParts.{IsLevelsOf};
-    ghost use Rattle.path_delays.specs.NumberSets.{IsCommon, has_number};
-    ghost use Rattle.path_delays.specs.WalkParts.{HaveReach, HaveReachBetween, IsRoomFor, sums_to};
-
     /// Room for walks over a circuit.
     pub(crate) fn new(
         alloc: Global,
@@ -42,15 +49,13 @@ impl Walk {
 
     /// Walks from up to sixteen registers to all that they reach, from the lowest rank to the
     /// highest, each register in a lane. It takes no memory.
-    pub(crate) fn walk_from(&mut self, circuit: &Circuit, tech: &Tech, registers: &[u32])
-        requires room { IsRoomFor circuit.now tech.now self.old }
-        requires few { length registers.now ≤ 16 }
-        requires registers { All (λ from. from < length circuit.now.registers) registers.now }
-        ensures reach { HaveReach circuit.now tech.now registers.now self.new }
-        ensures room { IsRoomFor circuit.now tech.now self.new }
+    pub(crate) fn walk_from(&mut self, from: &Launches<'_>)
+        requires { IsRoomFor from.now.circuit.now from.now.tech.now self.old }
+        ensures reach { HaveReach from.now.circuit.now from.now.tech.now from.now.registers.now
+            self.new }
+        ensures room { IsRoomFor from.now.circuit.now from.now.tech.now self.new }
     {
-        self.reach
-            .reach_up_to(&self.network, circuit, tech, registers, u32::MAX);
+        self.reach.reach_up_to(&self.network, from, u32::MAX);
     }
 
     /// Walks from the first of each of up to sixteen pairs of registers, each in a lane, up to the
@@ -68,7 +73,12 @@ impl Walk {
         for (lane, pair) in pairs.iter().enumerate() {
             registers[lane] = pair.0;
         }
-        self.reach.reach_up_to(&self.network, circuit, tech, &registers[..pairs.len()], top);
+        let from = Launches {
+            circuit,
+            tech,
+            registers: &registers[..pairs.len()],
+        };
+        self.reach.reach_up_to(&self.network, &from, top);
     }
 
     /// Finds which of some signals the register reaches.
@@ -84,9 +94,8 @@ impl Walk {
     }
 
     /// The sums to a signal from the register in a lane, `None` where that doesn't reach it.
-    pub(crate) fn sums(&self, lane: usize, signal: u32) -> Option<Sums>
-        requires { lane < 16 }
-        ensures { result ≡ sums_to self.now lane signal }
+    pub(crate) fn sums(&self, lane: Lane, signal: u32) -> Option<Sums>
+        ensures { result ≡ sums_to self.now lane.number signal }
     {
         self.reach.sums_at(lane, signal)
     }
@@ -100,10 +109,9 @@ impl Walk {
 
     /// The sums to a signal that some register reaches, from the one in a lane, `None` where that
     /// one doesn't reach it.
-    pub(crate) fn held_sums(&self, lane: usize, signal: u32) -> Option<Sums>
-        requires lane { lane < 16 }
-        requires held { IsTrue (has_number self.now.reach.reached.words.items signal) }
-        ensures { result ≡ sums_to self.now lane signal }
+    pub(crate) fn held_sums(&self, lane: Lane, signal: u32) -> Option<Sums>
+        requires { IsTrue (has_number self.now.reach.reached.words.items signal) }
+        ensures { result ≡ sums_to self.now lane.number signal }
     {
         self.reach.lanes.sums(signal as usize, lane)
     }
@@ -118,30 +126,17 @@ impl Walk {
 }
 
 impl Reach {
-    ghost use Rattle.path_delays.specs.Networks.{IsNetworkOf};
-    ghost use Rattle.path_delays.specs.Handing.{HasReachRoom, IsCleared};
-    ghost use Rattle.path_delays.specs.Walking.{HaveReachedUpTo, IsSpreadBelow};
-
     // Reaches what registers reach up to a rank: each gate hands on its sums when no lower rank
     // waits.
-    fn reach_up_to(
-        &mut self,
-        network: &Network,
-        circuit: &Circuit,
-        tech: &Tech,
-        registers: &[u32],
-        top: u32,
-    )
-        requires network { IsNetworkOf circuit.now tech.now network.now }
+    fn reach_up_to(&mut self, network: &Network, from: &Launches<'_>, top: u32)
+        requires network { IsNetworkOf from.now.circuit.now from.now.tech.now network.now }
         requires room { HasReachRoom network.now self.old }
-        requires few { length registers.now ≤ 16 }
-        requires registers { All (λ from. from < length circuit.now.registers) registers.now }
-        ensures reach { HaveReachedUpTo circuit.now tech.now network.now registers.now top
-            self.new }
+        ensures reach { HaveReachedUpTo from.now.circuit.now from.now.tech.now network.now
+            from.now.registers.now top self.new }
         ensures room { HasReachRoom network.now self.new }
     {
         self.clear();
-        self.launch_all(network, circuit, tech, registers);
+        self.launch_all(network, from);
         let mut rank = 1;
         while let Some(next) = self.waiting.take_lowest(rank) {
             if next > top {
@@ -153,45 +148,34 @@ impl Reach {
     }
 
     // Starts at what each of some registers launches.
-    fn launch_all(&mut self, network: &Network, circuit: &Circuit, tech: &Tech, registers: &[u32])
-        requires network { IsNetworkOf circuit.now tech.now network.now }
+    fn launch_all(&mut self, network: &Network, from: &Launches<'_>)
+        requires network { IsNetworkOf from.now.circuit.now from.now.tech.now network.now }
         requires room { HasReachRoom network.now self.old }
         requires clear { IsCleared self.old }
-        requires few { length registers.now ≤ 16 }
-        requires registers { All (λ from. from < length circuit.now.registers) registers.now }
-        ensures spread { IsSpreadBelow circuit.now tech.now network.now registers.now
-            (length registers.now) 1 self.new }
+        ensures spread { IsSpreadBelow from.now.circuit.now from.now.tech.now network.now
+            from.now.registers.now (length from.now.registers.now) 1 self.new }
         ensures room { HasReachRoom network.now self.new }
     {
-        for lane in 0..registers.len() {
-            self.launch(network, circuit, tech, registers, lane);
+        for lane in 0..from.registers.len() {
+            self.launch(network, from, lane);
         }
     }
 
     // Starts in a lane at each signal that its register launches.
-    fn launch(
-        &mut self,
-        network: &Network,
-        circuit: &Circuit,
-        tech: &Tech,
-        registers: &[u32],
-        lane: usize,
-    )
-        requires network { IsNetworkOf circuit.now tech.now network.now }
+    fn launch(&mut self, network: &Network, from: &Launches<'_>, lane: usize)
+        requires network { IsNetworkOf from.now.circuit.now from.now.tech.now network.now }
         requires room { HasReachRoom network.now self.old }
-        requires few { length registers.now ≤ 16 }
-        requires registers { All (λ from. from < length circuit.now.registers) registers.now }
-        requires lane { lane < length registers.now }
-        requires spread { IsSpreadBelow circuit.now tech.now network.now registers.now lane 1
-            self.old }
-        ensures spread { IsSpreadBelow circuit.now tech.now network.now registers.now (lane + 1) 1
-            self.new }
+        requires lane { lane < length from.now.registers.now }
+        requires spread { IsSpreadBelow from.now.circuit.now from.now.tech.now network.now
+            from.now.registers.now lane 1 self.old }
+        ensures spread { IsSpreadBelow from.now.circuit.now from.now.tech.now network.now
+            from.now.registers.now (lane + 1) 1 self.new }
         ensures room { HasReachRoom network.now self.new }
     {
-        let sums = start_sums(tech);
-        let from = registers[lane] as usize;
-        for signal in launched(circuit, network.inputs.as_slice(), from) {
-            self.start(network, lane, *signal, sums);
+        let sums = start_sums(from.tech);
+        let register = from.registers[lane] as usize;
+        for signal in launched(from.circuit, network.inputs.as_slice(), register) {
+            self.start(network, Lane { number: lane }, *signal, sums);
         }
     }
 }

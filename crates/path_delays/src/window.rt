@@ -1,6 +1,5 @@
 ghost use Rattle.std.specs.Prelude.{◌≡◌, ◌+◌, ◌*◌, ◌^◌, ℕ, pos, ◌+ℤ◌, ◌*ℤ◌, nat_abs};
-ghost use Rattle.cts_model.specs.placement.Points.{IsBelow};
-ghost use Rattle.cts_model.specs.table.Tables.{IsWithin};
+ghost use Rattle.path_delays.specs.Vocabulary.{IsBelow, IsWithin, AreWithin, IsWindowBelow, either_window, merged_windows, window_after};
 
 use crate::sums::Sums;
 
@@ -14,10 +13,6 @@ pub struct Window {
 }
 
 impl Window {
-    ghost use Rattle.path_delays.specs.SumParts.{AreWithin};
-    ghost use Rattle.path_delays.specs.Windows.{IsWindowBelow};
-    ghost use Rattle.path_delays.specs.WindowParts.{either_window, merged_windows, window_after};
-
     /// The window after a delay in ticks.
     pub(crate) fn suffix(self, delay: Sums, scale: i128) -> Window
         requires window { IsWindowBelow (2 * 10 ^ 19) self }

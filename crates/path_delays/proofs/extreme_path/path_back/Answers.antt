@@ -12,7 +12,7 @@ pub loop-read-preserved : goal.loop-read-preserved
 loop-read-preserved c = record {
   within = reads_within c.args.circuit.now.signals c.loop-read.signal c.in-Some-furthest_read.read
       c.args.circuit.now.valid.read c.in-Some-furthest_read.ensures.is_one;
-  back = λ tech from reach. back_next c.args.circuit.now tech from c.args.to c.args.lane
+  back = λ tech from reach. back_next c.args.circuit.now tech from c.args.to c.args.lane.number
       c.args.walk.now c.args.greatest c.requires.ranks reach c.in-Some.last c.loop-read.signal
       c.in-Some-furthest_read.read _ _ c.in_ok-push.ensures.items c.in-Some-furthest_read.ensures
       (c.loop-read.invariant.back tech from reach);
@@ -22,7 +22,7 @@ pub returns-in_default : goal.returns-in_default
 returns-in_default c tech from reach =
     let captured = captured_is_fan_in c.args.circuit.now c.args.to c.register_signal.result.now
     c.register_signal.ensures in
-    no_path c.args.circuit.now tech from c.args.to c.args.lane c.args.walk.now
+    no_path c.args.circuit.now tech from c.args.to c.args.lane.number c.args.walk.now
     c.register_signal.result.now.fan_in captured
     (λ signal listed. reach.each signal (reach.captured signal ((captured signal).0 listed)))
     (rw c.as_slice-captured.ensures at c.in_default.ensures)
@@ -32,24 +32,24 @@ loop-read-init c =
     let circuit = c.args.circuit.now in
     let signal = c.register_signal.result.now in
     let furthest = captures_furthest circuit c.args.to signal c.register_signal.ensures
-    c.args.walk.now c.args.lane c.args.greatest c.in-Some.last
+    c.args.walk.now c.args.lane.number c.args.greatest c.in-Some.last
     (rw c.as_slice-captured.ensures at c.in-Some.ensures) in
     let within = captures_within circuit c.args.to signal c.register_signal.ensures c.in-Some.last
     furthest.is_one in
     record {
       within = within;
-      back = λ tech from reach. back_first circuit tech from c.args.to c.args.lane c.args.walk.now
-          c.args.greatest c.requires.ranks reach c.in-Some.last c.in_ok-path.path.items
-          c.in_ok-path.ensures.items within furthest;
+      back = λ tech from reach. back_first circuit tech from c.args.to c.args.lane.number
+          c.args.walk.now c.args.greatest c.requires.ranks reach c.in-Some.last
+          c.in_ok-path.path.items c.in_ok-path.ensures.items within furthest;
     }
 
 pub returns : goal.returns
 returns c tech from reach =
     let circuit = c.args.circuit.now in
     let furthest = captures_furthest circuit c.args.to c.register_signal.result.now
-    c.register_signal.ensures c.args.walk.now c.args.lane c.args.greatest c.in-Some.last
+    c.register_signal.ensures c.args.walk.now c.args.lane.number c.args.greatest c.in-Some.last
     (rw c.as_slice-captured.ensures at c.in-Some.ensures) in
-    back_at_start circuit tech from c.args.to c.args.lane c.args.walk.now c.args.greatest
+    back_at_start circuit tech from c.args.to c.args.lane.number c.args.walk.now c.args.greatest
     c.requires.ranks reach c.in-Some.last c.loop-read.signal c.loop-read.path.items
     c.from_vec.result (c.from_vec.ensures ∙ c.reverse.ensures.items) furthest
     c.in_default-furthest_read.ensures (c.loop-read.invariant.back tech from reach)

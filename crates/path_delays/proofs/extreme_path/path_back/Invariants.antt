@@ -7,8 +7,9 @@ abbrev pub invariant-loop-read : goal.invariant-loop-read
 invariant-loop-read l = record {
   within : l.signal < length l.circuit.signals;
   back : (tech : Tech) (from : ℕ)
-      → (reach : HasReachBetween l.circuit tech from l.to l.lane l.walk)
-      → IsBack l.circuit tech l.walk l.lane reach.top l.greatest l.last l.path.items l.signal;
+      → (reach : HasReachBetween l.circuit tech from l.to l.lane.number l.walk)
+      → IsBack l.circuit tech l.walk l.lane.number reach.top l.greatest l.last l.path.items
+      l.signal;
 }
 
 abbrev pub decreases-loop-read : goal.decreases-loop-read

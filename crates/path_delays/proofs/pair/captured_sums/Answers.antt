@@ -20,13 +20,13 @@ loop-signal-preserved c =
       take_more signals i 0
           c.loop-signal-test.true,
     )
-    (extremes_next (sums_to c.args.walk.now c.args.lane) (take i signals) (get_or signals i 0)
-    c.loop-signal.captured c.loop-signal.invariant)
+    (extremes_next (sums_to c.args.walk.now c.args.lane.number) (take i signals)
+    (get_or signals i 0) c.loop-signal.captured c.loop-signal.invariant)
 
 pub returns : goal.returns
 returns c =
     subst (λ signals. AreExtremesIfAny
-    (StandsAt (sums_to c.args.walk.now c.args.lane) (Contains signals)) c.loop-signal.captured)
-    (take_all c.loop-signal.signal-index c.args.signals.now
+    (StandsAt (sums_to c.args.walk.now c.args.lane.number) (Contains signals))
+    c.loop-signal.captured) (take_all c.loop-signal.signal-index c.args.signals.now
     (omega (arith, c.loop-signal-test.false)))
     c.loop-signal.invariant

@@ -6,8 +6,8 @@ use Rattle.path_delays.proofs.PairWalk.{pair_next}
 use Rattle.path_delays.proofs.ReachedPairs.{captured_is_fan_in}
 use Rattle.path_delays.proofs.pairs.push_found.Goals as goal
 
-pub held_sums-requires-clause-held : goal.held_sums-requires-clause-held
-held_sums-requires-clause-held c = (c.requires.capture.single c.in-Some.signal c.in-Some.is).1
+pub held_sums-requires : goal.held_sums-requires
+held_sums-requires c = (c.requires.capture.single c.in-Some.signal c.in-Some.is).1
 
 pub returns-in-Some : goal.returns-in-Some
 returns-in-Some c =
@@ -15,7 +15,7 @@ returns-in-Some c =
     let signal = c.in-Some.signal in
     let from = c.args.from in
     let to = c.args.capture.now.register in
-    let lane = c.args.lane in
+    let lane = c.args.lane.number in
     let walk = c.args.walk.now in
     let joined : (tech : Tech) → HasReach circuit tech from lane walk
     → IsJoinedBy circuit tech from to c.joined_pair.result = λ tech reach.
@@ -23,7 +23,6 @@ returns-in-Some c =
     (c.requires.capture.single signal c.in-Some.is).0 (λ other listed. reach.each other)
     (rw c.held_sums.ensures (extremes_single (sums_to walk lane) signal)) in
     record {
-      few = c.push_joined.ensures.few;
       listed = on_ok_weaker c.push_joined.result
           (λ is tech reach. pair_next circuit tech from to _ _ _ (joined tech reach) is)
           c.push_joined.ensures.ok;
@@ -37,7 +36,7 @@ returns-in-None c =
     let circuit = c.args.circuit.now in
     let from = c.args.from in
     let to = c.args.capture.now.register in
-    let lane = c.args.lane in
+    let lane = c.args.lane.number in
     let walk = c.args.walk.now in
     let joined : (tech : Tech) → HasReach circuit tech from lane walk
     → IsJoinedBy circuit tech from to c.joined_pair-in-None.result = λ tech reach.
@@ -45,7 +44,6 @@ returns-in-None c =
     (rw c.as_slice-captured.ensures (captured_is_fan_in circuit to c.register_signal.result.now
     c.register_signal.ensures)) (λ other listed. reach.each other) c.captured_sums.ensures in
     record {
-      few = c.push_joined-in-None.ensures.few;
       listed = on_ok_weaker c.push_joined-in-None.result
           (λ is tech reach. pair_next circuit tech from to _ _ _ (joined tech reach) is)
           c.push_joined-in-None.ensures.ok;

@@ -34,16 +34,17 @@ returns-in_err-push_found-clause-many c =
     let i = c.loop-capture.capture-index in
     rw (fault.1, fault.2) (λ tech reach listed.
     c.in_err-push_found.ensures.many tech reach (subst
-    (λ n. ListsPairsBefore c.args.circuit.now tech c.args.from n c.loop-capture.pairs.items)
+    (λ n. ListsPairsBefore c.args.circuit.now tech c.args.from n c.loop-capture.pairs.list.items)
     (register_at captures i c.loop-capture-test.true)
-    (passed_here c.requires.registers c.loop-capture.invariant.1 tech c.loop-capture.pairs.items
-    (c.loop-capture.invariant.2 tech reach listed) (omega (arith, as_many captures)))))
+    (passed_here c.requires.registers c.loop-capture.invariant.1 tech
+    c.loop-capture.pairs.list.items (c.loop-capture.invariant.2 tech reach listed)
+    (omega (arith, as_many captures)))))
 
 pub loop-capture-preserved-then-not-capture-lane : goal.loop-capture-preserved-then-not-capture-lane
 loop-capture-preserved-then-not-capture-lane c =
     let captures = c.args.captures.now in
     let i = c.loop-capture.capture-index in
-    let pairs = c.loop-capture.pairs.items in
+    let pairs = c.loop-capture.pairs.list.items in
     let capture = get_or captures i no_capture in
     let inside : i < length (registers_of captures) = omega (arith, as_many captures) in
     let same = register_at captures i c.loop-capture-test.true in (
@@ -52,12 +53,11 @@ loop-capture-preserved-then-not-capture-lane c =
       λ tech reach listed.
           rw same
           (pair_next c.args.circuit.now tech c.args.from capture.register pairs pairs None
-          (missed_path c.args.circuit.now tech c.args.from c.args.lane c.args.walk.now capture
-          reach (c.requires.captures i no_capture c.loop-capture-test.true) c.requires.lane
+          (missed_path c.args.circuit.now tech c.args.from c.args.lane.number c.args.walk.now
+          capture reach (c.requires.captures i no_capture c.loop-capture-test.true) c.args.lane.low
           c.if-not-capture-lane.true) (sym (append-nil pairs)) (rw same at
           (passed_here c.requires.registers c.loop-capture.invariant.1 tech pairs
           (c.loop-capture.invariant.2 tech reach listed) inside))),
-      c.loop-capture.invariant.3,
     )
 
 pub loop-capture-preserved : goal.loop-capture-preserved
@@ -72,12 +72,11 @@ loop-capture-preserved c =
           rw same
           (c.in_ok-push_found.ensures.listed tech reach (rw same at
           (passed_here c.requires.registers c.loop-capture.invariant.1 tech
-          c.loop-capture.pairs.items (c.loop-capture.invariant.2 tech reach listed) inside))),
-      c.in_ok-push_found.ensures.few,
+          c.loop-capture.pairs.list.items (c.loop-capture.invariant.2 tech reach listed) inside))),
     )
 
 pub returns-clause-listed : goal.returns-clause-listed
 returns-clause-listed c tech reach listed =
-    passed_all c.requires.registers c.loop-capture.invariant.1 tech c.loop-capture.pairs.items
+    passed_all c.requires.registers c.loop-capture.invariant.1 tech c.loop-capture.pairs.list.items
     (c.loop-capture.invariant.2 tech reach listed)
     (omega (arith, c.loop-capture-test.false, as_many c.args.captures.now))

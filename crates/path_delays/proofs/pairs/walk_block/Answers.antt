@@ -1,22 +1,25 @@
 -- The lanes of the block hold its registers.
-use Rattle.path_delays.proofs.Vocabulary.{◌≡◌, ◌+◌, ◌-◌, ◌<◌, length, take, get_or, Some, ◌∙◌, ap, subst, arith, length-take, get_or-take, get_or_default, slice_get-get_or}
+use Rattle.path_delays.proofs.Vocabulary.{◌≡◌, ◌+◌, ◌-◌, ◌<◌, length, take, get_or, Some, ◌∙◌, ap, subst, arith, rules, length-take, get_or-take, get_or_default, slice_get-get_or}
 use Rattle.path_delays.proofs.pairs.walk_block.Goals as goal
 
-pub walk_from-requires-clause-registers : goal.walk_from-requires-clause-registers
-walk_from-requires-clause-registers c k d inside =
-    let count = c.args.end - c.args.first in
-    let registers = c.loop-from.registers in
-    let covered = length-take count registers in
-    let short : k < count = omega (arith, covered) in
-    let long : k < length registers = omega (arith, covered) in
-    let same : c.args.first + k - c.args.first ≡ k = omega arith in
-    let here : get_or registers k 0 ≡ c.args.first + k =
-    subst (λ n. get_or registers n 0 ≡ c.args.first + k) same
-    (c.loop-from.invariant.each (c.args.first + k) (omega arith)
-    (omega (arith, c.loop-from-test.false, c.requires.after))) in
-    let value : get_or (take count registers) k d ≡ c.args.first + k =
-    get_or-take count registers k d short ∙ (get_or_default registers k d 0 long ∙ here) in
-    omega (arith, value, c.requires.within)
+pub invariant_of-walk_from : goal.invariant_of-walk_from
+invariant_of-walk_from c = record {
+  few = search rules;
+  within = λ k d inside.
+      let count = c.args.end - c.args.first in
+      let registers = c.loop-from.registers in
+      let covered = length-take count registers in
+      let short : k < count = omega (arith, covered) in
+      let long : k < length registers = omega (arith, covered) in
+      let same : c.args.first + k - c.args.first ≡ k = omega arith in
+      let here : get_or registers k 0 ≡ c.args.first + k =
+      subst (λ n. get_or registers n 0 ≡ c.args.first + k) same
+      (c.loop-from.invariant.each (c.args.first + k) (omega arith)
+      (omega (arith, c.loop-from-test.false, c.requires.after))) in
+      let value : get_or (take count registers) k d ≡ c.args.first + k =
+      get_or-take count registers k d short ∙ (get_or_default registers k d 0 long ∙ here) in
+      omega (arith, value, c.requires.within);
+}
 
 pub returns-clause-reach : goal.returns-clause-reach
 returns-clause-reach c from after before =

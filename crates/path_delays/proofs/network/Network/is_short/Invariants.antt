@@ -1,5 +1,6 @@
 -- So much is left after the delays passed so far.
-use Rattle.path_delays.proofs.Vocabulary.{take, IsLeftAfter}
+use Rattle.path_delays.proofs.Vocabulary.{take}
+use Rattle.path_delays.proofs.Rooms.{IsLeftAfter}
 use Rattle.path_delays.proofs.network.Network.is_short.Given as goal
 
 abbrev pub invariant-loop-delay : goal.invariant-loop-delay

@@ -8,12 +8,14 @@ pub loop-gate-init : goal.loop-gate-init
 loop-gate-init c =
     record { room = c.requires.room; limit = refl; kept = refl; handed = λ given here. refl }
 
-pub hand_to-requires-clause-reached : goal.hand_to-requires-clause-reached
-hand_to-requires-clause-reached c =
-    subst (λ (o : Option Lanes). IsSome o) (sym c.loop-gate.invariant.kept) c.requires.reached
-
-pub hand_to-requires-clause-small : goal.hand_to-requires-clause-small
-hand_to-requires-clause-small c given here = grind (arith)
+pub hand_to-requires-clause-signal : goal.hand_to-requires-clause-signal
+hand_to-requires-clause-signal c = record {
+  room = c.loop-gate.invariant.room;
+  inside = c.requires.inside;
+  reached =
+      subst (λ (o : Option Lanes). IsSome o) (sym c.loop-gate.invariant.kept) c.requires.reached;
+  small = λ given here. grind (arith);
+}
 
 pub loop-gate-preserved : goal.loop-gate-preserved
 loop-gate-preserved c =
@@ -25,7 +27,7 @@ loop-gate-preserved c =
     λ given here. c.hand_to.ensures given (c.loop-gate.invariant.kept ∙ here) in
     let found = some_is (lanes_at c.args.self.now c.args.signal) c.requires.reached in
     let one = handed found.0 found.1 in
-    let apart = c.requires.room.apart c.args.signal c.requires.signal c.loop-gate.gate-index 0
+    let apart = c.requires.room.apart c.args.signal c.requires.inside c.loop-gate.gate-index 0
     (omega (arith, ap length c.group-gate-items.ensures, c.loop-gate-test.true)) in
     record {
       room = HasReachRoom-same network c.loop-gate.self c.hand_to.new.self one.room

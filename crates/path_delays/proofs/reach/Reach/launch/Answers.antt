@@ -19,7 +19,7 @@ start-requires-clause-signal c =
     let signal = get_or launched place 0 in
     omega (
       arith,
-      launched_within c.args.circuit.now _ signal
+      launched_within c.args.from.now.circuit.now _ signal
           ((c.launched-signal-items.ensures signal).0
           (Contains-get_or launched place 0 c.loop-signal-test.true)),
       c.requires.network.ranks.covers,
@@ -33,12 +33,12 @@ start-requires-clause-small c = grind (arith, all_bounded)
 
 pub loop-signal-preserved : goal.loop-signal-preserved
 loop-signal-preserved c = record {
-  spread = begun_next c.args.circuit.now c.args.tech.now c.args.network.now c.requires.network
-      c.args.registers.now c.args.lane _
-      (slice_get-get_or c.args.registers.now c.args.lane 0 c.requires.lane)
+  spread = begun_next c.args.from.now.circuit.now c.args.from.now.tech.now c.args.network.now
+      c.requires.network c.args.from.now.registers.now c.args.lane _
+      (slice_get-get_or c.args.from.now.registers.now c.args.lane 0 c.requires.lane)
       c.launched-signal-items.result.now
       c.launched-signal-items.ensures c.loop-signal.self c.start.new.self
-      c.loop-signal.signal-index (omega (arith, c.requires.few, c.requires.lane))
+      c.loop-signal.signal-index (omega (arith, c.args.from.now.few, c.requires.lane))
       c.loop-signal-test.true (rw c.start_sums-sums.ensures.sums at c.start.ensures.started)
       c.loop-signal.invariant.spread;
   room = c.start.ensures.room;
@@ -49,12 +49,12 @@ returns c =
     let launched = c.launched-signal-items.result.now in
     let all : c.loop-signal.signal-index ≡ length launched = omega arith in
     record {
-      spread = begun_all c.args.circuit.now c.args.tech.now c.args.network.now c.requires.network
-          c.args.registers.now c.args.lane _
-          (slice_get-get_or c.args.registers.now c.args.lane 0 c.requires.lane) launched
+      spread = begun_all c.args.from.now.circuit.now c.args.from.now.tech.now c.args.network.now
+          c.requires.network c.args.from.now.registers.now c.args.lane _
+          (slice_get-get_or c.args.from.now.registers.now c.args.lane 0 c.requires.lane) launched
           c.launched-signal-items.ensures c.loop-signal.self
-          (subst (λ n. IsSpread c.args.circuit.now c.args.tech.now c.args.network.now
-          c.args.registers.now (BegunIn c.args.lane (take n launched))
+          (subst (λ n. IsSpread c.args.from.now.circuit.now c.args.from.now.tech.now
+          c.args.network.now c.args.from.now.registers.now (BegunIn c.args.lane (take n launched))
           (AllBelow c.args.network.now 1) 1 c.loop-signal.self) all
           c.loop-signal.invariant.spread);
       room = c.loop-signal.invariant.room;

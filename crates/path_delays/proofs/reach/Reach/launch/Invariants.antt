@@ -4,7 +4,7 @@ use Rattle.path_delays.proofs.reach.Reach.launch.Given as goal
 
 abbrev pub invariant-loop-signal : goal.invariant-loop-signal
 invariant-loop-signal l = record {
-  spread : IsSpread l.circuit l.tech l.network l.registers
+  spread : IsSpread l.from.circuit.now l.from.tech.now l.network l.from.registers.now
       (BegunIn l.lane (take l.signal-index l.signal-items))
       (AllBelow l.network 1) 1 l.self;
   room : HasReachRoom l.network l.self;

@@ -4,6 +4,7 @@ use Rattle.path_delays.proofs.reach.Reach.launch_all.Given as goal
 
 abbrev pub invariant-loop-lane : goal.invariant-loop-lane
 invariant-loop-lane l = record {
-  spread : IsSpreadBelow l.circuit l.tech l.network l.registers l.lane 1 l.self;
+  spread : IsSpreadBelow l.from.circuit.now l.from.tech.now l.network l.from.registers.now l.lane 1
+      l.self;
   room : HasReachRoom l.network l.self;
 }

@@ -8,6 +8,9 @@ join-requires-clause-sums c =
     subst (λ limit. AreWithin limit c.args.sums) (sym c.open.ensures.room.limit) c.requires.sums
 
 pub returns : goal.returns
-returns c = IsMarked-joined c.args.self.now c.open.new.self c.args.lane c.args.signal c.args.sums
-    c.join.new.self c.requires.lane (omega (arith, c.requires.signal, c.open.ensures.room.lanes))
-    c.open.ensures c.join.ensures.limit c.join.ensures.sums
+returns c = IsMarked-joined c.args.self.now c.open.new.self c.args.lane.number c.args.signal
+    c.args.sums c.join.new.self c.args.lane.low (omega (
+      arith,
+      c.requires.room.row,
+      c.open.ensures.room.lanes,
+    )) c.open.ensures c.join.ensures.limit c.join.ensures.sums

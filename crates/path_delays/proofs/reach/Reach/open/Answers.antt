@@ -10,4 +10,4 @@ returns-then-not-contains c = IsOpened-first c.args.self.now c.args.signal c.ins
 
 pub returns-else-not-contains : goal.returns-else-not-contains
 returns-else-not-contains c = IsOpened-kept c.args.self.now c.args.signal
-    (sym c.contains.ensures ∙ c.if-not-contains.false) c.requires.signal
+    (sym c.contains.ensures ∙ c.if-not-contains.false) c.requires.row

@@ -1,5 +1,5 @@
 -- The gate of the lowest rank that waits is taken, and hands on its sums.
-use Rattle.path_delays.proofs.Vocabulary.{◌≡◌, ◌+◌, ◌∙◌, ℕ, length, refl, sym, arith, true≢false, slice_get_within, Reach, lanes_at, rank_at, LanesBelow}
+use Rattle.path_delays.proofs.Vocabulary.{◌≡◌, ◌+◌, ◌∙◌, ℕ, length, refl, sym, arith, rules, true≢false, slice_get_within, Reach, lanes_at, rank_at, LanesBelow}
 use Rattle.path_delays.proofs.Hands.{HasReachRoom-same}
 use Rattle.path_delays.proofs.LaneLemmas.{some_is}
 use Rattle.path_delays.proofs.WalkEnds.{reach_shown}
@@ -9,33 +9,27 @@ use Rattle.path_delays.proofs.reach.Reach.reach_up_to.Goals as goal
 pub index-requires : goal.index-requires
 index-requires c = grind (arith, next_within)
 
-pub hand_on-requires-clause-signal : goal.hand_on-requires-clause-signal
-hand_on-requires-clause-signal c =
+pub hand_on-requires : goal.hand_on-requires
+hand_on-requires c =
     let due = c.loop-next.invariant.spread.due c.in-Some.next c.in-Some.ensures.some.held in
-    let next = next_gate c.args.circuit.now c.args.tech.now c.args.network.now c.requires.network
-    c.loop-next.self c.loop-next.rank c.in-Some.next c.index.result.now
-    c.loop-next.invariant.counted due c.index.ensures in
-    omega (arith, next.inside, c.requires.network.ranks.covers)
-
-pub hand_on-requires-clause-reached : goal.hand_on-requires-clause-reached
-hand_on-requires-clause-reached c =
-    let due = c.loop-next.invariant.spread.due c.in-Some.next c.in-Some.ensures.some.held in
-    (next_gate c.args.circuit.now c.args.tech.now c.args.network.now c.requires.network
-    c.loop-next.self c.loop-next.rank c.in-Some.next c.index.result.now
-    c.loop-next.invariant.counted due c.index.ensures).reached
-
-pub hand_on-requires-clause-small : goal.hand_on-requires-clause-small
-hand_on-requires-clause-small c = grind (arith, all_bounded)
+    let next = next_gate c.args.from.now.circuit.now c.args.from.now.tech.now c.args.network.now
+    c.requires.network c.loop-next.self c.loop-next.rank c.in-Some.next c.index.result.now
+    c.loop-next.invariant.counted due c.index.ensures in record {
+      room = search rules;
+      inside = omega (arith, next.inside, c.requires.network.ranks.covers);
+      reached = next.reached;
+      small = λ given here. grind (arith, all_bounded);
+    }
 
 pub loop-next-smaller : goal.loop-next-smaller
 loop-next-smaller c = grind (arith, next_within)
 
 pub loop-next-preserved : goal.loop-next-preserved
 loop-next-preserved c =
-    let circuit = c.args.circuit.now in
-    let tech = c.args.tech.now in
+    let circuit = c.args.from.now.circuit.now in
+    let tech = c.args.from.now.tech.now in
     let network = c.args.network.now in
-    let registers = c.args.registers.now in
+    let registers = c.args.from.now.registers.now in
     let is = c.requires.network in
     let gate = c.index.result.now in
     let due = c.loop-next.invariant.spread.due c.in-Some.next c.in-Some.ensures.some.held in
@@ -62,17 +56,17 @@ loop-next-preserved c =
 
 pub returns-then-next-top-clause-reach : goal.returns-then-next-top-clause-reach
 returns-then-next-top-clause-reach c lane from signal here below =
-    let registers = c.args.registers.now in
+    let registers = c.args.from.now.registers.now in
     let within = slice_get_within registers lane from here in
-    reach_shown c.args.circuit.now c.args.tech.now registers from lane here c.args.network.now
-    c.requires.network c.loop-next.self c.loop-next.rank within
-    (omega (arith, within, c.requires.few)) c.loop-next.invariant.spread c.args.top
+    reach_shown c.args.from.now.circuit.now c.args.from.now.tech.now registers from lane here
+    c.args.network.now c.requires.network c.loop-next.self c.loop-next.rank within
+    (omega (arith, within, c.args.from.now.few)) c.loop-next.invariant.spread c.args.top
     (λ other waits. omega (arith, c.if-next-top.true, c.in-Some.ensures.some.lowest other waits))
     signal below
 
 pub returns : goal.returns
 returns c =
-    let registers = c.args.registers.now in
+    let registers = c.args.from.now.registers.now in
     let taken : Reach = record {
       reached = c.loop-next.self.reached;
       lanes = c.loop-next.self.lanes;
@@ -81,9 +75,9 @@ returns c =
     record {
       reach = λ lane from signal here below.
           let within = slice_get_within registers lane from here in
-          reach_shown c.args.circuit.now c.args.tech.now registers from lane here
+          reach_shown c.args.from.now.circuit.now c.args.from.now.tech.now registers from lane here
           c.args.network.now c.requires.network c.loop-next.self c.loop-next.rank within
-          (omega (arith, within, c.requires.few)) c.loop-next.invariant.spread c.args.top
+          (omega (arith, within, c.args.from.now.few)) c.loop-next.invariant.spread c.args.top
           (λ other waits. absurd (true≢false (sym waits ∙ c.in_default.ensures.none other))) signal
           below;
       room = HasReachRoom-same c.args.network.now c.loop-next.self taken

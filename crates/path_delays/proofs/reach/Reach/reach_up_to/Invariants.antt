@@ -4,7 +4,8 @@ use Rattle.path_delays.proofs.reach.Reach.reach_up_to.Given as goal
 
 abbrev pub invariant-loop-next : goal.invariant-loop-next
 invariant-loop-next l = record {
-  spread : IsSpreadBelow l.circuit l.tech l.network l.registers (length l.registers) l.rank l.self;
+  spread : IsSpreadBelow l.from.circuit.now l.from.tech.now l.network l.from.registers.now
+      (length l.from.registers.now) l.rank l.self;
   room : HasReachRoom l.network l.self;
   counted : 1 ≤ l.rank;
 }

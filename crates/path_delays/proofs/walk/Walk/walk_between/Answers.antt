@@ -1,10 +1,12 @@
 -- The lanes hold the first registers, and none of the second captures beyond the highest rank.
-use Rattle.path_delays.proofs.Vocabulary.{◌≡◌, ◌<◌, ◌∙◌, ℕ, Some, length, take, get_or, ap, arith, subst, sym, length-take, get_or-take, get_or_default, same_Some, slice_get-get_or, slice_get_within, AreCapturedUpTo}
+use Rattle.path_delays.proofs.Vocabulary.{◌≡◌, ◌<◌, ◌∙◌, ℕ, Some, length, take, get_or, ap, arith, rules, subst, sym, length-take, get_or-take, get_or_default, same_Some, slice_get-get_or, slice_get_within, AreCapturedUpTo}
 use Rattle.path_delays.proofs.walk.Walk.walk_between.Goals as goal
 
-pub reach_up_to-requires-clause-registers : goal.reach_up_to-requires-clause-registers
-reach_up_to-requires-clause-registers c k d inside =
-    grind (arith, length-take, get_or-take, get_or_default)
+pub invariant_of-from : goal.invariant_of-from
+invariant_of-from c = record {
+  few = search rules;
+  within = λ k d inside. grind (arith, length-take, get_or-take, get_or_default);
+}
 
 pub returns-clause-reach : goal.returns-clause-reach
 returns-clause-reach c lane from to here =

@@ -1,7 +1,0 @@
--- One block more.
-use Rattle.path_delays.proofs.Vocabulary.{arith}
-use Rattle.path_delays.proofs.BetweenLemmas.{take_on}
-use Rattle.path_delays.proofs.between.walked_delays.Goals as goal
-
-pub loop-first-preserved : goal.loop-first-preserved
-loop-first-preserved c = grind (arith, take_on)

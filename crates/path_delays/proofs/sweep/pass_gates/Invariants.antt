@@ -1,6 +1,0 @@
--- The gates of the order so far are passed.
-use Rattle.path_delays.specs.WindowParts.{ArePassed}
-use Rattle.path_delays.proofs.sweep.pass_gates.Given as goal
-
-abbrev pub invariant-loop-gate : goal.invariant-loop-gate
-invariant-loop-gate l = ArePassed l.circuit l.tech l.schedule l.levels l.gate-index l.windows.items

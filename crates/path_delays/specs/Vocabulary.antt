@@ -1,0 +1,33 @@
+-- The words that the contracts of this crate have in common.
+pub use Rattle.std.specs.Int.{int_min, int_max}
+pub use Rattle.std.specs.Option.{option_and_then, option_to_list, option_map}
+pub use Rattle.cts_model.specs.declared.circuit.Circuit.{Circuit}
+pub use Rattle.cts_model.specs.declared.tech.Tech.{Tech}
+pub use Rattle.cts_model.specs.netlist.Kinds.{is_gate, is_valid}
+pub use Rattle.cts_model.specs.netlist.Paths.{Reads}
+pub use Rattle.cts_model.specs.placement.Points.{IsBelow}
+pub use Rattle.cts_model.specs.table.Tables.{IsWithin}
+pub use Rattle.cts_model.specs.timing.ConstraintPaths.{ArePathsWithin}
+pub use Rattle.cts_model.specs.timing.Constraints.{IsConstraintOf}
+pub use Rattle.cts_model.specs.timing.PairLists.{JoinsMoreThan}
+pub use Rattle.gate_order.specs.LevelParts.{IsLevelsOf}
+pub use Rattle.path_delays.specs.Captured.{AreCapturedBy}
+pub use Rattle.path_delays.specs.Capturings.{IsCapture, registers_of, AreGathered, HasCaptureRoom, IsCapturingOf, AreAllReached}
+pub use Rattle.path_delays.specs.Carrying.{AreLaunchedBy, AreExtremesIfAny, StandsAt}
+pub use Rattle.path_delays.specs.CyclePaths.{FitsRoom, IsPathWithin, IsReachedAlong, AreReachedAlong, KeepsPaths, pair_of}
+pub use Rattle.path_delays.specs.ExtremePaths.{IsExtremeIfAny, IsFurthestIfAny, extreme_of}
+pub use Rattle.path_delays.specs.Handing.{most_of, rank_at, CanHandOn, HasReachRoom, HasRoomAt, IsCleared, IsHanded, IsHandedOn, IsMarked, IsOpened, IsSameRoom, IsStarted, lanes_at, limit_of, sums_at}
+pub use Rattle.path_delays.specs.JoinedPairs.{AreDelaysBetween, IsJoinedBy, ListsPairsBefore, ArePairs, ShowsTooMany, MeetsLimit, pair_limit}
+pub use Rattle.path_delays.specs.LaneParts.{AllBounded, lane_of}
+pub use Rattle.path_delays.specs.LaneTables.{CanHand, GetsSums, IsJoined, IsMerged, IsPassed, lane_in, rows_of, table_limit}
+pub use Rattle.path_delays.specs.NarrowParts.{narrow_limit, wide_lanes}
+pub use Rattle.path_delays.specs.Networks.{gate_sums, AreInputs, AreAllReads, AreCapturedUpTo, ArePlaces, IsNetworkOf, all_reads_by}
+pub use Rattle.path_delays.specs.NumberSets.{IsCommon, has_number}
+pub use Rattle.path_delays.specs.SumParts.{AreWithin, delay_limit, no_sums, some_sums, either_sums, merged_sums, sums_through, AreBounded}
+pub use Rattle.path_delays.specs.WalkParts.{IsRoomFor, HasRanksOf, HasReachBetween, ReachesEach, sums_to, HasReach, HaveReach, HaveReachBetween}
+pub use Rattle.path_delays.specs.Walking.{HaveReachedUpTo, IsSpreadBelow}
+pub use Rattle.path_delays.specs.WindowParts.{AreBelow, AreCaptures, AreLaunched, ArePassed, IsGateWindow, either_window, start_window, sums_in, sums_of, window_at, window_limit, merged_windows, window_after}
+pub use Rattle.path_delays.specs.Windows.{AreWindows, IsSmallSchedule, IsWindowBelow}
+pub use Rattle.path_delays.specs.declared.lanes.Lanes.{Lanes}
+pub use Rattle.path_delays.specs.declared.walk.Walk.{Walk}
+pub use Rattle.path_delays.specs.declared.window.Window.{Window}
