@@ -134,6 +134,21 @@ raise_shows measure constraints first before cycle old Never ratio small is grea
       omega (arith, left_at measure first old ratio greatest),
     )
 
+-- so does a cycle with a total above 0 at the trial
+pub ring_shows : {measure : Measure} (constraints : List Constraint) (first : Fraction)
+    (before cycle : List ℕ) (old new : Shown) {ratio : Fraction} {trial : Gains}
+    → CanTry measure first → IsShown measure constraints first before old
+    → IsGreatestShown first old ratio → IsTrialAt measure ratio trial
+    → AreWithin constraints cycle → IsCycle (constraints_at constraints cycle)
+    → pos 0 <ℤ total_gain trial (constraints_at constraints cycle)
+    → IsRaise measure ratio (constraints_at constraints cycle) new
+    → IsShown measure constraints first cycle new
+    × (raises_left measure first new < raises_left measure first old)
+ring_shows {measure} constraints first before cycle old new {ratio} {trial} small is greatest at
+    within is_cycle gains raise = raise_shows measure constraints first before cycle old new ratio
+    small is greatest within is_cycle
+    (not_kept measure ratio trial (constraints_at constraints cycle) new at gains raise) raise
+
 -- two constraints that close a cycle join two registers
 pub two_registers : (registers : ℕ) (constraints : List Constraint) (place : ℕ)
     → AreSmallConstraints registers constraints → ClosesWithNext constraints place → 2 ≤ registers

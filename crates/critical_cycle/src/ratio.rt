@@ -3,16 +3,17 @@ ghost use Rattle.cts_model.specs.timing.Constraints.{AreSmallConstraints};
 ghost use Rattle.critical_cycle.specs.CyclePlaces.{AreWithin, IsFromLowest, constraints_at};
 ghost use Rattle.critical_cycle.specs.Measures.{CanTry};
 ghost use Rattle.critical_cycle.specs.Ratios.{IsRatioOf};
-ghost use Rattle.critical_cycle.specs.Searches.{IsSearch};
 ghost use Rattle.critical_cycle.specs.ShownRatios.{IsSettled};
 
 use crate::measure::Measure;
+use crate::policy::Policy;
 use crate::ring::turn_to_lowest;
 use crate::search::Search;
 use crate::shown::Shown;
+use crate::trials::Trials;
 use cts_base::{Fraction, Listed, NoMemory};
 use cts_model::Constraint;
-use relaxation::{Relaxation, Turns};
+use relaxation::Relaxation;
 use std::alloc::Global;
 
 /// The greatest ratio of the cycles of constraints, at or above a first one. It is the least ratio
@@ -55,15 +56,12 @@ pub fn greatest_ratio(
     requires first { CanTry measure first }
     ensures ratio { IfOk result (IsRatioOf measure constraints.now first) }
 {
-    let list = constraints.as_slice();
-    let relaxation = Relaxation::new(alloc, registers)?;
     let places = vec![in alloc; 0u32; registers]?;
-    let mut marks = vec![in alloc; 0u32; registers]?;
-    let mut search = Search::at_first(measure, first, relaxation, places);
-    search.look_at_short_cycles(list);
-    let mut turns = Turns::new(alloc, registers, list, search.trial)?;
-    search.iterate(list, &mut marks, &mut turns);
-    Ok(settled(search, list))
+    let mut search = Search::at_first(constraints.as_slice(), measure, first, places);
+    search.look_at_short_cycles();
+    let mut policy = Policy::new(alloc, search)?;
+    policy.iterate();
+    Ok(settled(policy.into_trials()))
 }
 
 /// The same without policy iteration, in lists with an entry for each register that may hold any.
@@ -83,38 +81,38 @@ pub(crate) fn greatest_ratio_in(
     ensures ratio { IsRatioOf measure constraints.now first result }
 {
     let list = constraints.as_slice();
-    let relaxation = Relaxation::from_zero(values.into_vec(), parents.into_vec());
-    let mut search = Search::at_first(measure, first, relaxation, cycle.into_vec());
-    search.look_at_short_cycles(list);
-    settled(search, list)
+    let mut search = Search::at_first(list, measure, first, cycle.into_vec());
+    search.look_at_short_cycles();
+    let relaxation = Relaxation::from_zero(list, values.into_vec(), parents.into_vec());
+    settled(Trials { search, relaxation })
 }
 
 // What a search shows once it has settled: a ratio that isn't enough is raised.
-fn settled(search: Search, constraints: &[Constraint]) -> Ratio
-    requires { IsSearch constraints.now search }
-    ensures { IsRatioOf search.measure constraints.now search.first result }
+fn settled(trials: Trials<'_>) -> Ratio
+    ensures { IsRatioOf trials.entry.search.measure trials.entry.search.constraints.now
+        trials.entry.search.first result }
 {
-    let mut search = search;
-    while let Some(register) = search.settle(constraints) {
-        search.raise(constraints, register);
+    let mut trials = trials;
+    while let Some(register) = trials.settle() {
+        trials = trials.raise(register);
     }
-    ratio_of(search, constraints)
+    ratio_of(trials.search)
 }
 
 // What a search that has settled shows.
-fn ratio_of(search: Search, constraints: &[Constraint]) -> Ratio
-    requires search { IsSearch constraints.now search }
-    requires settled { IsSettled search.measure constraints.now search.first search.shown }
-    ensures { IsRatioOf search.measure constraints.now search.first result }
+fn ratio_of(search: Search<'_>) -> Ratio
+    requires { IsSettled search.measure search.constraints.now search.first search.shown }
+    ensures { IsRatioOf search.entry.measure search.entry.constraints.now search.entry.first
+        result }
 {
     match search.shown {
         Shown::First => Ratio::First,
         Shown::Value(value) => Ratio::Cycle {
             value,
-            cycle: cycle_of(search.places, search.start, constraints),
+            cycle: cycle_of(search.places, search.start, search.constraints),
         },
         Shown::Never => Ratio::Never {
-            cycle: cycle_of(search.places, search.start, constraints),
+            cycle: cycle_of(search.places, search.start, search.constraints),
         },
     }
 }
