@@ -3,23 +3,11 @@ use Rattle.std.specs.Prelude.{◌≡◌, ◌<◌, ◌≤◌, ◌+◌, ◌++◌, 
 use Rattle.std.specs.List.{sum_by}
 use Rattle.cts_base.specs.declared.fraction.Fraction.{Fraction}
 use Rattle.cts_model.specs.declared.constraint.Constraint.{Constraint}
-use Rattle.cts_model.specs.timing.Constraints.{AreSmallConstraints}
 use Rattle.cts_model.specs.declared.schedule.Lead.{Lead}
 use Rattle.cts_model.specs.declared.schedule.Lead.TheVariants.{Zero, Tight}
 use Rattle.schedule.specs.declared.reach.Reach.{Reach}
-use Rattle.cts_model.specs.timing.Schedules.{arrival_of, AreFromZero, IsSmallPeriod}
+use Rattle.cts_model.specs.timing.Schedules.{arrival_of}
 use Rattle.cts_model.specs.timing.Leads.{IsLead, IsTight, depth_of, lead_at}
-
--- what is known of the constraints, the period and the arrivals
-pub record IsGiven (constraints : List Constraint) (period : Fraction) (at : List ℤ) : Type 0 where
-  pub small : AreSmallConstraints (length at) constraints
-  pub range : IsSmallPeriod period
-  pub from_zero : AreFromZero (length at) (arrival_of at)
-
--- there is a flag and a lead for each register
-pub record IsSized (registers : ℕ) (reach : Reach) : Type 0 where
-  pub flags : length reach.reached.items ≡ registers
-  pub leads : length reach.leads.items ≡ registers
 
 -- the register is reached
 abbrev pub IsReached : Reach → ℕ → Type 0
