@@ -2,6 +2,7 @@
 //! the least clock period that the constraints admit is one.
 #![tactic(auto)]
 
+mod cycle;
 mod measure;
 mod period;
 mod policy;

@@ -5,9 +5,9 @@ ghost use Rattle.critical_cycle.specs.Measures.{CanTry};
 ghost use Rattle.critical_cycle.specs.Ratios.{IsRatioOf};
 ghost use Rattle.critical_cycle.specs.ShownRatios.{IsSettled};
 
+use crate::cycle::Cycle;
 use crate::measure::Measure;
 use crate::policy::Policy;
-use crate::ring::turn_to_lowest;
 use crate::search::Search;
 use crate::shown::Shown;
 use crate::trials::Trials;
@@ -119,6 +119,7 @@ fn ratio_of(search: Search<'_>) -> Ratio
 
 // The cycle whose places come last in the list, from the lowest tail on.
 fn cycle_of(places: Vec<u32>, start: usize, constraints: &[Constraint]) -> Listed<u32>
+    requires small { AreSmallConstraints (length places.items) constraints.now }
     requires start { start < length places.items }
     requires within { AreWithin constraints.now (drop start places.items) }
     ensures rotated { (turn : ℕ) × (result
@@ -129,6 +130,11 @@ fn cycle_of(places: Vec<u32>, start: usize, constraints: &[Constraint]) -> Liste
     let len = cycle.len() - start;
     cycle.rotate_left(start);
     cycle.truncate(len);
-    turn_to_lowest(&mut cycle, constraints);
+    let turn = Cycle {
+        constraints,
+        places: cycle.as_slice(),
+    };
+    let lowest = turn.place_of_lowest();
+    cycle.rotate_left(lowest);
     Listed::from_vec(cycle)
 }

@@ -6,6 +6,7 @@ ghost use Rattle.critical_cycle.specs.Measures.{CanTry};
 ghost use Rattle.critical_cycle.specs.OneShown.{shown_prop};
 ghost use Rattle.critical_cycle.specs.ShownRatios.{IsNeverAtAll, IsShown};
 
+use crate::cycle::Cycle;
 use crate::measure::Measure;
 use crate::raise::raise_by;
 use crate::shown::Shown;
@@ -148,7 +149,11 @@ impl<'a> Search<'a> {
         let Some(ratio) = self.shown.ratio(self.first) else {
             return;
         };
-        let shown = raise_by(self.measure, ratio, self.constraints, cycle);
+        let considered = Cycle {
+            constraints: self.constraints,
+            places: cycle,
+        };
+        let shown = raise_by(self.measure, ratio, &considered);
         if let Shown::First = shown {
             return;
         }

@@ -1,6 +1,7 @@
 ghost use Rattle.std.specs.Prelude.{◌≡◌, ◌<◌, MatchOption, length};
 ghost use Rattle.critical_cycle.specs.ShownRatios.{IsSettled, raises_left};
 
+use crate::cycle::Cycle;
 use crate::raise::raise_by;
 use crate::ring::go_round;
 use crate::search::Search;
@@ -63,7 +64,11 @@ impl<'a> Trials<'a> {
             relaxation.parents.as_slice(),
             register,
         );
-        let shown = raise_by(measure, ratio, constraints, places.split_at(start).1);
+        let cycle = Cycle {
+            constraints,
+            places: places.split_at(start).1,
+        };
+        let shown = raise_by(measure, ratio, &cycle);
         let search = Search {
             constraints,
             measure,

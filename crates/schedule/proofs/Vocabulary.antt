@@ -23,4 +23,5 @@ pub use Rattle.schedule.specs.Given.{IsGiven}
 pub use Rattle.schedule.specs.Reaching.{IsAdded, IsGrown, IsHanded, IsHandedBy, IsReachKept, IsReached, IsReaching, IsWhole, IsFromReached, unreached}
 pub use Rattle.schedule.specs.Rises.{IsRising, CanRaise}
 pub use Rattle.schedule.specs.Schedules.{AreWithinWeights, CanSchedule, IsLeastScheduleOf, IsAdmittedBy}
+pub use Rattle.schedule.specs.declared.arrivals.Arrivals.{Arrivals}
 pub use Rattle.schedule.specs.declared.reach.Reach.{Reach}

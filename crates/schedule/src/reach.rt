@@ -23,8 +23,7 @@ impl Reach {
 
     /// Reaches the registers at 0.
     pub(crate) fn start(alloc: Global, arrivals: &Arrivals<'_>) -> Result<Reach, NoMemory>
-        ensures { IfOk result (IsReaching arrivals.now.constraints.now arrivals.now.period
-            arrivals.now.at.now (length arrivals.now.at.now)) }
+        ensures { IfOk result (IsReaching arrivals.now (length arrivals.now.at.now)) }
     {
         let registers = arrivals.at.len();
         let mut reach = Reach {
@@ -41,10 +40,8 @@ impl Reach {
     // Reaches a register if it is at 0.
     fn start_at(&mut self, arrivals: &Arrivals<'_>, register: usize) -> Result<(), NoMemory>
         requires within { register < length arrivals.now.at.now }
-        requires reaching { IsReaching arrivals.now.constraints.now arrivals.now.period
-            arrivals.now.at.now register self.old }
-        ensures { OnOk result (IsReaching arrivals.now.constraints.now arrivals.now.period
-            arrivals.now.at.now (register + 1) self.new) }
+        requires reaching { IsReaching arrivals.now register self.old }
+        ensures { OnOk result (IsReaching arrivals.now (register + 1) self.new) }
     {
         if arrivals.at[register] != 0 {
             return Ok(());
@@ -66,10 +63,8 @@ impl Reach {
 
     /// Takes each register that is reached in turn, and hands leads on from it.
     pub(crate) fn reach_all(&mut self, arrivals: &Arrivals<'_>) -> Result<(), NoMemory>
-        requires { IsReaching arrivals.now.constraints.now arrivals.now.period
-            arrivals.now.at.now (length arrivals.now.at.now) self.old }
-        ensures { OnOk result (IsWhole arrivals.now.constraints.now arrivals.now.period
-            arrivals.now.at.now self.new) }
+        requires { IsReaching arrivals.now (length arrivals.now.at.now) self.old }
+        ensures { OnOk result (IsWhole arrivals.now self.new) }
     {
         let mut taken = 0;
         while taken < self.queue.len() {
@@ -82,12 +77,10 @@ impl Reach {
 
     // Hands a lead on by each constraint that leads from a register.
     fn hand_on(&mut self, arrivals: &Arrivals<'_>, register: u32) -> Result<(), NoMemory>
-        requires reaching { IsReaching arrivals.now.constraints.now arrivals.now.period
-            arrivals.now.at.now (length arrivals.now.at.now) self.old }
+        requires reaching { IsReaching arrivals.now (length arrivals.now.at.now) self.old }
         requires reached { IsReached self.old register }
         requires within { register < length arrivals.now.at.now }
-        ensures { OnOk result (IsHanded arrivals.now.constraints.now arrivals.now.period
-            arrivals.now.at.now register 0 self.old self.new) }
+        ensures { OnOk result (IsHanded arrivals.now register 0 self.old self.new) }
     {
         let mut mark = arrivals.tails.last[register as usize];
         while mark > 0 {
@@ -101,12 +94,10 @@ impl Reach {
     // Hands a lead on by a constraint, if it is tight and its head has none.
     fn offer(&mut self, arrivals: &Arrivals<'_>, place: usize) -> Result<(), NoMemory>
         requires place { place < length arrivals.now.constraints.now }
-        requires reaching { IsReaching arrivals.now.constraints.now arrivals.now.period
-            arrivals.now.at.now (length arrivals.now.at.now) self.old }
+        requires reaching { IsReaching arrivals.now (length arrivals.now.at.now) self.old }
         requires tail { (default : Constraint)
             → IsReached self.old (slice_index_or arrivals.now.constraints.now place default).tail }
-        ensures { OnOk result (IsGrown arrivals.now.constraints.now arrivals.now.period
-            arrivals.now.at.now place self.old self.new) }
+        ensures { OnOk result (IsGrown arrivals.now place self.old self.new) }
     {
         let constraint = arrivals.constraints[place];
         if self.reached[constraint.head as usize] {

@@ -3,8 +3,8 @@ use Rattle.critical_cycle.proofs.Vocabulary.{◌≡◌, ◌∙◌, ap, subst, sy
 use Rattle.critical_cycle.proofs.SearchLemmas.{can_try, raise_shows}
 use Rattle.critical_cycle.proofs.search.Search.consider.Goals as goal
 
-pub raise_by-shown-requires-clause-ratio : goal.raise_by-shown-requires-clause-ratio
-raise_by-shown-requires-clause-ratio c =
+pub raise_by-shown-requires : goal.raise_by-shown-requires
+raise_by-shown-requires c =
     let search = c.args.self.now in
     can_try search.measure search.constraints.now search.first _ search.shown c.in-Some.ratio
     search.can search.shows c.in-Some.ensures

@@ -3,8 +3,8 @@ use Rattle.critical_cycle.proofs.Vocabulary.{◌≡◌, ◌∙◌, ℕ, List, ap
 use Rattle.critical_cycle.proofs.SearchLemmas.{ring_shows}
 use Rattle.critical_cycle.proofs.trials.Trials.raise.Goals as goal
 
-pub raise_by-shown-requires-clause-within : goal.raise_by-shown-requires-clause-within
-raise_by-shown-requires-clause-within c =
+pub invariant_of-cycle-clause-within : goal.invariant_of-cycle-clause-within
+invariant_of-cycle-clause-within c =
     let before = c.args.self.search in
     let places = c.go_round-start.new.places in
     let whole : (with_items before.places places).items ≡ places = with_items_is
@@ -55,3 +55,7 @@ returns-clause-less c =
     c.raise_by-shown.result before.can before.shows c.requires.at_shown.greatest c.requires.at_shown.at c.go_round-start.ensures.within
     c.go_round-start.ensures.cycle gains (subst (λ ps. IsRaise before.measure before.ratio
     (constraints_at constraints ps) c.raise_by-shown.result) cycle c.raise_by-shown.ensures)).1
+
+pub invariant_of-cycle-clause-small : goal.invariant_of-cycle-clause-small
+invariant_of-cycle-clause-small c =
+    λ place d within. (c.args.self.search.small.each place d within).weight

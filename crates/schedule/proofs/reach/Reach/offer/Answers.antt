@@ -16,5 +16,5 @@ returns c =
     let depth_is : c.depth_of-depth.result + 1 ≡ 1 + depth_of (lead_at old.leads.items it.tail) =
     omega (arith, c.depth_of-depth.ensures ∙ ap depth_of read) in
     on_ok_weaker
-    c.add.result (IsGrown-offered c.args.arrivals.now.given c.requires.reaching c.args.place c.requires.place
+    c.add.result (IsGrown-offered c.requires.reaching c.args.place c.requires.place
     (c.requires.tail nowhere) first tight (c.depth_of-depth.result + 1) depth_is) c.add.ensures

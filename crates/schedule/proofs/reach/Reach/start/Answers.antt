@@ -2,6 +2,5 @@ use Rattle.schedule.proofs.Vocabulary.{subst, arith, IsReaching}
 use Rattle.schedule.proofs.reach.Reach.start.Goals as goal
 
 pub returns : goal.returns
-returns c = subst (λ looked. IsReaching c.args.arrivals.now.constraints.now
-    c.args.arrivals.now.period c.args.arrivals.now.at.now looked c.loop-register.reach)
+returns c = subst (λ looked. IsReaching c.args.arrivals.now looked c.loop-register.reach)
     (omega arith) c.loop-register.invariant
