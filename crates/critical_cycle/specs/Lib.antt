@@ -8,3 +8,4 @@ pub mod OneShown
 pub mod Searches
 pub mod Ratios
 pub mod Periods
+pub mod Vocabulary

@@ -1,11 +1,8 @@
-ghost use Rattle.std.specs.Prelude.{◌≡◌, ◌<◌, IfOk, length};
+ghost use Rattle.std.specs.Prelude.{◌≡◌, ◌<◌, length};
 
 use crate::ring::go_round;
 use crate::search::Search;
-use crate::trials::Trials;
-use cts_base::NoMemory;
 use relaxation::Rounds;
-use std::alloc::Global;
 
 /// The most rounds of policy iteration.
 const ROUNDS: u32 = 256;
@@ -21,16 +18,8 @@ pub(crate) struct Policy<'a> {
         ≡ length search.places.items },
 }
 
-impl<'a> Policy<'a> {
+impl Policy<'_> {
     ghost use Rattle.critical_cycle.specs.Searches.{IsSameSearch};
-
-    /// From what a search has shown.
-    pub(crate) fn new(alloc: Global, search: Search<'a>) -> Result<Policy<'a>, NoMemory>
-        ensures { IfOk result (λ policy. IsSameSearch search.entry policy.search) }
-    {
-        let rounds = Rounds::new(alloc, search.places.len(), search.constraints, search.trial)?;
-        Ok(Policy { search, rounds })
-    }
 
     /// Goes on until no register waits, or else for so many rounds as take little time.
     pub(crate) fn iterate(&mut self)
@@ -45,16 +34,6 @@ impl<'a> Policy<'a> {
                 return;
             }
             self.improve();
-        }
-    }
-
-    /// The search with the values and the parents of the last round.
-    pub(crate) fn into_trials(self) -> Trials<'a>
-        ensures { IsSameSearch self.entry.search result.search }
-    {
-        Trials {
-            search: self.search,
-            relaxation: self.rounds.relaxation,
         }
     }
 

@@ -1,6 +1,4 @@
-ghost use Rattle.critical_cycle.specs.CyclePlaces.{constraints_at};
-ghost use Rattle.critical_cycle.specs.Measures.{CanTry};
-ghost use Rattle.critical_cycle.specs.Raises.{IsRaise};
+ghost use Rattle.critical_cycle.specs.Vocabulary.{CanTry, IsRaise, constraints_at};
 
 use crate::cycle::Cycle;
 use crate::measure::Measure;

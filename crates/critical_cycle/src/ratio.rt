@@ -1,9 +1,5 @@
 ghost use Rattle.std.specs.Prelude.{◌≡◌, ◌<◌, ◌++◌, ℕ, IfOk, drop, length, take};
-ghost use Rattle.cts_model.specs.timing.Constraints.{AreSmallConstraints};
-ghost use Rattle.critical_cycle.specs.CyclePlaces.{AreWithin, IsFromLowest, constraints_at};
-ghost use Rattle.critical_cycle.specs.Measures.{CanTry};
-ghost use Rattle.critical_cycle.specs.Ratios.{IsRatioOf};
-ghost use Rattle.critical_cycle.specs.ShownRatios.{IsSettled};
+ghost use Rattle.critical_cycle.specs.Vocabulary.{AreSmallConstraints, AreWithin, CanTry, IsFromLowest, IsRatioOf, IsSettled, constraints_at};
 
 use crate::cycle::Cycle;
 use crate::measure::Measure;
@@ -13,7 +9,7 @@ use crate::shown::Shown;
 use crate::trials::Trials;
 use cts_base::{Fraction, Listed, NoMemory};
 use cts_model::Constraint;
-use relaxation::Relaxation;
+use relaxation::{Relaxation, Rounds};
 use std::alloc::Global;
 
 /// The greatest ratio of the cycles of constraints, at or above a first one. It is the least ratio
@@ -56,12 +52,16 @@ pub fn greatest_ratio(
     requires first { CanTry measure first }
     ensures ratio { IfOk result (IsRatioOf measure constraints.now first) }
 {
+    let list = constraints.as_slice();
     let places = vec![in alloc; 0u32; registers]?;
-    let mut search = Search::at_first(constraints.as_slice(), measure, first, places);
+    let mut search = Search::at_first(list, measure, first, places);
     search.look_at_short_cycles();
-    let mut policy = Policy::new(alloc, search)?;
+    let rounds = Rounds::new(alloc, registers, list, search.trial)?;
+    let mut policy = Policy { search, rounds };
     policy.iterate();
-    Ok(settled(policy.into_trials()))
+    let Policy { search, rounds } = policy;
+    let relaxation = rounds.relaxation;
+    Ok(settled(Trials { search, relaxation }))
 }
 
 /// The same without policy iteration, in lists with an entry for each register that may hold any.

@@ -1,11 +1,5 @@
 ghost use Rattle.std.specs.Prelude.{◌≡◌, ◌<◌, ℕ, ℤ, pos, ◌<ℤ◌, List, length, drop, Some};
-ghost use Rattle.cts_model.specs.declared.constraint.Constraint.{Constraint};
-ghost use Rattle.cts_model.specs.timing.Constraints.{AreSmallConstraints};
-ghost use Rattle.cts_model.specs.timing.Cycles.{IsCycle};
-ghost use Rattle.relaxation.specs.declared.gains.Gains.{Gains};
-ghost use Rattle.relaxation.specs.Gains.{total_gain};
-ghost use Rattle.relaxation.specs.Parents.{AreParents, EndsClimb, parent_of};
-ghost use Rattle.critical_cycle.specs.CyclePlaces.{AreWithin, constraints_at};
+ghost use Rattle.critical_cycle.specs.Vocabulary.{AreParents, AreSmallConstraints, AreWithin, Constraint, EndsClimb, Gains, IsCycle, constraints_at, parent_of, total_gain};
 
 use cts_model::Constraint;
 

@@ -1,10 +1,8 @@
 ghost use Rattle.std.specs.Prelude.{◌≡◌, ◌<◌, ◌≤◌, false, IsTrue, drop, length};
 ghost use Rattle.cts_model.specs.timing.Constraints.{AreSmallConstraints};
-ghost use Rattle.cts_model.specs.timing.Cycles.{IsCycle};
-ghost use Rattle.critical_cycle.specs.CyclePlaces.{AreWithin, constraints_at};
 ghost use Rattle.critical_cycle.specs.Measures.{CanTry};
 ghost use Rattle.critical_cycle.specs.OneShown.{shown_prop};
-ghost use Rattle.critical_cycle.specs.ShownRatios.{IsNeverAtAll, IsShown};
+ghost use Rattle.critical_cycle.specs.ShownRatios.{IsShown};
 
 use crate::cycle::Cycle;
 use crate::measure::Measure;
@@ -37,7 +35,7 @@ pub(crate) struct Search<'a> {
 }
 
 impl<'a> Search<'a> {
-    ghost use Rattle.critical_cycle.specs.Searches.{ClosesWithNext, IsAtShown, IsSameSearch, IsSearchFor};
+    ghost use Rattle.critical_cycle.specs.Vocabulary.{AreWithin, ClosesWithNext, IsAtShown, IsCycle, IsNeverAtAll, IsSameSearch, IsSearchFor, constraints_at};
 
     /// The search at the first ratio, before anything else is shown, in a list that may hold any
     /// numbers. It takes no memory.

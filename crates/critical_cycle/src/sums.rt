@@ -1,8 +1,5 @@
 ghost use Rattle.std.specs.Prelude.{◌≡◌, ◌^◌, ◌↔◌, IsTrue, pos, ◌+ℤ◌, ◌-ℤ◌, ◌*ℤ◌, ◌<ℤ◌, if◌then◌else◌};
-ghost use Rattle.cts_model.specs.timing.Constraints.{count_of};
-ghost use Rattle.cts_model.specs.timing.Cycles.{total_count, total_weight};
-ghost use Rattle.cts_model.specs.placement.Points.{IsBelow};
-ghost use Rattle.critical_cycle.specs.CyclePlaces.{constraints_at};
+ghost use Rattle.critical_cycle.specs.Vocabulary.{IsBelow, constraints_at, count_of, total_count, total_weight};
 
 use crate::cycle::Cycle;
 use crate::measure::Measure;

@@ -48,37 +48,17 @@ impl<'a> Trials<'a> {
             self.entry.search.shown }
     {
         let Trials { search, relaxation } = self;
-        let Search {
-            constraints,
-            measure,
-            first,
-            ratio,
-            trial,
-            places,
-            ..
-        } = search;
-        let mut places = places;
-        let start = go_round(
-            &mut places,
-            constraints,
-            relaxation.parents.as_slice(),
-            register,
-        );
+        let mut search = search;
+        let mut places = search.places;
+        let parents = relaxation.parents.as_slice();
+        let start = go_round(&mut places, search.constraints, parents, register);
         let cycle = Cycle {
-            constraints,
+            constraints: search.constraints,
             places: places.split_at(start).1,
         };
-        let shown = raise_by(measure, ratio, &cycle);
-        let search = Search {
-            constraints,
-            measure,
-            first,
-            ratio,
-            trial,
-            places,
-            start,
-            shown,
-        };
+        search.shown = raise_by(search.measure, search.ratio, &cycle);
+        search.places = places;
+        search.start = start;
         Trials { search, relaxation }
     }
 }

@@ -1,4 +1,5 @@
-ghost use Rattle.std.specs.Prelude.{◌≡◌, length};
+ghost use Rattle.std.specs.Prelude.{◌≡◌, ◌<◌, IfSome, length};
+ghost use Rattle.relaxation.specs.Rounds.{AreSameRounds, HasRisen};
 
 use crate::gains::Gains;
 use crate::policy::STANDS;
@@ -8,9 +9,6 @@ use crate::rounds::Rounds;
 const CAP: i128 = 1 << 93;
 
 impl Rounds<'_> {
-    ghost use Rattle.std.specs.Prelude.{◌<◌, IfSome};
-    ghost use Rattle.relaxation.specs.Rounds.{AreSameRounds, HasRisen};
-
     /// Raises values along parents, and by registers that hand theirs on in turn, until no register
     /// waits or there were as many rounds as there are registers. It takes no memory.
     pub fn raise(&mut self, gains: Gains)
@@ -155,9 +153,8 @@ impl Rounds<'_> {
         if self.relaxation.values[constraint.tail as usize] > CAP {
             return;
         }
-        if let Some(head) = self.relaxation.relax(place, gains) {
-            self.turns.let_wait(head);
-        }
+        let raised = self.relaxation.relax(place, gains);
+        self.turns.let_raised_wait(raised);
     }
 }
 

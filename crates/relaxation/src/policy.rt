@@ -3,6 +3,8 @@
 //! Dasdan, "Experimental analysis of the fastest optimum cycle ratio and mean algorithms", 2004.
 
 ghost use Rattle.std.specs.Prelude.{◌<◌, IsTrue, IfSome, length};
+ghost use Rattle.relaxation.specs.Parents.{HaveOwnHeads};
+ghost use Rattle.relaxation.specs.Rounds.{AreSameRounds};
 
 use crate::gains::Gains;
 use crate::relaxation::{Relaxation, cut};
@@ -15,8 +17,6 @@ pub(crate) const STANDS: u32 = u32::MAX;
 const NO_GAIN: i128 = -(1 << 80);
 
 impl Relaxation<'_> {
-    ghost use Rattle.relaxation.specs.Parents.{HaveOwnHeads};
-
     /// Whether each parent leads to the register that it is a parent of.
     pub fn have_own_heads(&self) -> bool
         ensures { IsTrue result → HaveOwnHeads self.now.constraints.now self.now.parents.items }
@@ -29,8 +29,6 @@ impl Relaxation<'_> {
 }
 
 impl Rounds<'_> {
-    ghost use Rattle.relaxation.specs.Rounds.{AreSameRounds};
-
     /// Makes the constraint that gains most of those that are linked and lead to a register its
     /// parent. All values become 0.
     pub fn choose_parents(&mut self, gains: Gains)

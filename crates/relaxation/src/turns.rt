@@ -161,6 +161,13 @@ impl Turns {
         self.waiting = self.waiting.wrapping_add(1);
     }
 
+    /// Lets a register that was raised wait, if one was.
+    pub(crate) fn let_raised_wait(&mut self, raised: Option<u32>) {
+        if let Some(register) = raised {
+            self.let_wait(register);
+        }
+    }
+
     /// The register that has waited longest. It waits no more.
     pub(crate) fn next(&mut self) -> Option<u32> {
         if self.waiting == 0 {

@@ -3,3 +3,4 @@ pub mod Schedules
 pub mod Rises
 pub mod Given
 pub mod Reaching
+pub mod Vocabulary

@@ -1,11 +1,5 @@
 ghost use Rattle.std.specs.Prelude.{◌≡◌, ◌^◌, All, IfOk, length, nat_abs};
-ghost use Rattle.cts_model.specs.timing.Constraints.{AreSmallConstraints};
-ghost use Rattle.cts_model.specs.placement.Points.{IsBelow};
-ghost use Rattle.relaxation.specs.Gains.{AdmitsGains};
-ghost use Rattle.schedule.specs.Gains.{AreGainsOf, AreLeastArrivalsBy};
-ghost use Rattle.schedule.specs.Rises.{CanRaise};
-ghost use Rattle.schedule.specs.Schedules.{AreWithinWeights, IsAdmittedBy, IsLeastScheduleOf};
-ghost use Rattle.cts_model.specs.timing.Schedules.{IsSmallPeriod};
+ghost use Rattle.schedule.specs.Vocabulary.{AdmitsGains, AreGainsOf, AreLeastArrivalsBy, AreSmallConstraints, AreWithinWeights, CanRaise, IsAdmittedBy, IsBelow, IsLeastScheduleOf, IsSmallPeriod};
 
 use cts_base::{Fraction, Listed, NoMemory};
 use cts_model::{Constraint, Schedule};

@@ -1,8 +1,5 @@
 ghost use Rattle.std.specs.Prelude.{◌≡◌, ◌≤◌, ℕ, Contains, IfOk, length, nat_abs};
-ghost use Rattle.cts_model.specs.timing.Constraints.{AreSmallConstraints};
-ghost use Rattle.schedule.specs.Schedules.{IsAdmittedBy, IsLeastScheduleOf};
-ghost use Rattle.cts_model.specs.timing.Schedules.{IsSmallPeriod};
-ghost use Rattle.cts_model.specs.timing.Leads.{EachLead, depth_of, lead_at};
+ghost use Rattle.schedule.specs.Vocabulary.{AreSmallConstraints, EachLead, IsAdmittedBy, IsLeastScheduleOf, IsSmallPeriod, depth_of, lead_at};
 
 use crate::arrivals::Arrivals;
 use crate::reach::Reach;

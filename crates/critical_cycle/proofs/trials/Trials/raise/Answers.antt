@@ -14,8 +14,8 @@ invariant_of-cycle-clause-within c =
     c.go_round-start.ensures.within
 
 -- the ring shows more
-pub invariant_of-search : goal.invariant_of-search
-invariant_of-search c =
+pub invariant_of-search-2 : goal.invariant_of-search-2
+invariant_of-search-2 c =
     let before = c.args.self.search in
     let constraints = before.constraints.now in
     let places = c.go_round-start.new.places in
@@ -25,18 +25,18 @@ invariant_of-search c =
     ∙ ap (λ (ps : List ℕ). drop c.go_round-start.result ps) (c.deref.ensures.value ∙ whole) in
     let gains = c.go_round-start.ensures.gains before.trial c.args.self.relaxation.values.items
     (subst (AreParents constraints before.trial c.args.self.relaxation.values.items)
-    (sym c.as_slice.ensures.value) c.requires.far_up.are_parents) in
+    (sym c.as_slice-parents.ensures.value) c.requires.far_up.are_parents) in
     let shows = ring_shows constraints before.first _ (drop c.go_round-start.result places)
-    before.shown c.raise_by-shown.result before.can before.shows c.requires.at_shown.greatest c.requires.at_shown.at c.go_round-start.ensures.within
+    before.shown c.raise_by-search.result before.can before.shows c.requires.at_shown.greatest c.requires.at_shown.at c.go_round-start.ensures.within
     c.go_round-start.ensures.cycle gains (subst (λ ps. IsRaise before.measure before.ratio
-    (constraints_at constraints ps) c.raise_by-shown.result) cycle c.raise_by-shown.ensures) in
+    (constraints_at constraints ps) c.raise_by-search.result) cycle c.raise_by-search.ensures) in
     record {
       small = subst (λ n. AreSmallConstraints n constraints) (sym (ap length whole
           ∙ c.go_round-start.ensures.len ∙ ap length c.deref_mut.ensures.value)) before.small;
       within = omega (arith, ap length whole, c.go_round-start.ensures.some);
       can = before.can;
       shows = subst (λ ps. IsShown before.measure constraints before.first
-          (drop c.go_round-start.result ps) c.raise_by-shown.result) (sym whole) shows.0;
+          (drop c.go_round-start.result ps) c.raise_by-search.result) (sym whole) shows.0;
     }
 
 pub returns-clause-less : goal.returns-clause-less
@@ -50,11 +50,11 @@ returns-clause-less c =
     ∙ ap (λ (ps : List ℕ). drop c.go_round-start.result ps) (c.deref.ensures.value ∙ whole) in
     let gains = c.go_round-start.ensures.gains before.trial c.args.self.relaxation.values.items
     (subst (AreParents constraints before.trial c.args.self.relaxation.values.items)
-    (sym c.as_slice.ensures.value) c.requires.far_up.are_parents) in
+    (sym c.as_slice-parents.ensures.value) c.requires.far_up.are_parents) in
     (ring_shows constraints before.first _ (drop c.go_round-start.result places) before.shown
-    c.raise_by-shown.result before.can before.shows c.requires.at_shown.greatest c.requires.at_shown.at c.go_round-start.ensures.within
+    c.raise_by-search.result before.can before.shows c.requires.at_shown.greatest c.requires.at_shown.at c.go_round-start.ensures.within
     c.go_round-start.ensures.cycle gains (subst (λ ps. IsRaise before.measure before.ratio
-    (constraints_at constraints ps) c.raise_by-shown.result) cycle c.raise_by-shown.ensures)).1
+    (constraints_at constraints ps) c.raise_by-search.result) cycle c.raise_by-search.ensures)).1
 
 pub invariant_of-cycle-clause-small : goal.invariant_of-cycle-clause-small
 invariant_of-cycle-clause-small c =

@@ -5,50 +5,28 @@ use Rattle.relaxation.proofs.RiseLemmas.{small_wider}
 use Rattle.relaxation.proofs.StepLemmas.{IsRoomKept-one}
 use Rattle.relaxation.proofs.rounds.Rounds.offer.Goals as goal
 
-pub relax-requires-clause-small : goal.relax-requires-clause-small
-relax-requires-clause-small c = small_wider (2 ^ 94) (2 ^ 115) _ (omega arith) c.args.self.now.small
+pub relax-raised-requires-clause-small : goal.relax-raised-requires-clause-small
+relax-raised-requires-clause-small c =
+    small_wider (2 ^ 94) (2 ^ 115) _ (omega arith) c.args.self.now.small
 
 pub invariant_of-self : goal.invariant_of-self
 invariant_of-self c =
     let found = c.in-Some.ensures.lookup.3 in
-    let kept = IsRoomKept-one c.relax.result c.args.self.now.relaxation c.index.result.now
+    let kept = IsRoomKept-one c.relax-raised.result c.args.self.now.relaxation c.index.result.now
     c.args.self.now.small found.0 (found.1 nowhere) c.index.ensures
-    (omega (arith, ints, c.if-index-gt-CAP.false)) c.relax.ensures in
+    (omega (arith, ints, c.if-index-gt-CAP.false)) c.relax-raised.ensures in
     record {
       parents = omega (arith, kept.parents, kept.registers, c.args.self.now.parents);
       marked = omega (arith, kept.registers, c.args.self.now.marked);
       small = kept.small;
     }
 
-pub invariant_of-self-in_default-relax : goal.invariant_of-self-in_default-relax
-invariant_of-self-in_default-relax c =
+pub returns : goal.returns
+returns c =
     let found = c.in-Some.ensures.lookup.3 in
-    let kept = IsRoomKept-one c.relax.result c.args.self.now.relaxation c.index.result.now
+    let kept = IsRoomKept-one c.relax-raised.result c.args.self.now.relaxation c.index.result.now
     c.args.self.now.small found.0 (found.1 nowhere) c.index.ensures
-    (omega (arith, ints, c.if-index-gt-CAP.false)) c.relax.ensures in
-    record {
-      parents = omega (arith, kept.parents, kept.registers, c.args.self.now.parents);
-      marked = omega (arith, kept.registers, c.args.self.now.marked);
-      small = kept.small;
-    }
-
-pub returns-in-Some-relax : goal.returns-in-Some-relax
-returns-in-Some-relax c =
-    let found = c.in-Some.ensures.lookup.3 in
-    let kept = IsRoomKept-one c.relax.result c.args.self.now.relaxation c.index.result.now
-    c.args.self.now.small found.0 (found.1 nowhere) c.index.ensures
-    (omega (arith, ints, c.if-index-gt-CAP.false)) c.relax.ensures in
-    record {
-      same = record { constraints = kept.constraints; registers = kept.registers };
-      raised = kept.raised;
-    }
-
-pub returns-in_default-relax : goal.returns-in_default-relax
-returns-in_default-relax c =
-    let found = c.in-Some.ensures.lookup.3 in
-    let kept = IsRoomKept-one c.relax.result c.args.self.now.relaxation c.index.result.now
-    c.args.self.now.small found.0 (found.1 nowhere) c.index.ensures
-    (omega (arith, ints, c.if-index-gt-CAP.false)) c.relax.ensures in
+    (omega (arith, ints, c.if-index-gt-CAP.false)) c.relax-raised.ensures in
     record {
       same = record { constraints = kept.constraints; registers = kept.registers };
       raised = kept.raised;
