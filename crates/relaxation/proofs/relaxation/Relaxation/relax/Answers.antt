@@ -1,5 +1,5 @@
 -- The code's numbers are small, so they are what the definitions say.
-use Rattle.relaxation.proofs.Vocabulary.{◌^◌, get_or, ◌∙◌, refl, sym, subst, ap, arith, slice_get-get_or, Constraint, IsBelow}
+use Rattle.relaxation.proofs.Vocabulary.{◌^◌, get_or, ◌∙◌, refl, sym, subst, ap, slice_get-get_or, Constraint, IsBelow}
 use Rattle.std.proofs.Math.ListN.{set}
 use Rattle.relaxation.proofs.RelaxLemmas.{nowhere, IsRead-at, sum_fits, offer_read, left_read, more_read}
 use Rattle.relaxation.proofs.relaxation.Relaxation.relax.Goals as goal
@@ -24,13 +24,6 @@ returns-then-offer-index c =
       parents = refl;
       constraints = refl;
     })
-
-pub index_mut-requires : goal.index_mut-requires
-index_mut-requires c = omega (
-  arith,
-  (c.args.self.now.small.each c.args.place nowhere c.requires.place).head,
-  c.args.self.now.values.ok.0,
-)
 
 pub returns : goal.returns
 returns c =

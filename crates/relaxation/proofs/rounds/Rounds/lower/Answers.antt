@@ -7,10 +7,4 @@ pub invariant_of-self-clause-small : goal.invariant_of-self-clause-small
 invariant_of-self-clause-small c =
     let rounds = c.loop-register.self in
     small_set (2 ^ 88) rounds.relaxation.values.items c.loop-register.register c.cut.result
-    (omega arith) (omega (
-      arith,
-      rounds.marked,
-      c.loop-register.invariant.registers,
-      c.args.self.now.marked,
-      c.args.self.now.marks.ok.0,
-    )) c.cut.ensures rounds.small
+    (omega arith) (search arith) c.cut.ensures rounds.small
