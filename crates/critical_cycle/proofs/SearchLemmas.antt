@@ -1,5 +1,7 @@
 -- What a trial and a raise leave shown.
-use Rattle.critical_cycle.proofs.Vocabulary.{ℕ, ◌≡◌, ◌<◌, ◌≤◌, ◌+◌, ◌*◌, ℤ, pos, neg_ℤ, ◌*ℤ◌, ◌≤ℤ◌, ◌<ℤ◌, List, Option, Some, None, refl, sym, subst, arith, false, MatchOption, nat_abs, mul-le-mul_left, ints, by_lt_z, Fraction, Constraint, AreSmallConstraints, IsCycle, Measure, Gains, AreWithin, constraints_at, CanTry, IsTrialAt, SatisfiesRatio, most_weight, IsRaise, ClosesWithNext, IsGreatestShown, IsNeverAtAll, IsSettled, IsShown, raises_left, steps_below, SatisfiesGains, total_gain, up, down}
+use Rattle.critical_cycle.proofs.Vocabulary.{drop, ℕ, ◌≡◌, ◌<◌, ◌≤◌, ◌+◌, ◌*◌, ℤ, pos, neg_ℤ, ◌*ℤ◌, ◌≤ℤ◌, ◌<ℤ◌, List, Option, Some, None, refl, sym, subst, arith, false, MatchOption, nat_abs, mul-le-mul_left, ints, by_lt_z, Fraction, Constraint, AreSmallConstraints, IsCycle, Measure, Gains, AreWithin, constraints_at, CanTry, IsTrialAt, SatisfiesRatio, most_weight, IsRaise, ClosesWithNext, IsGreatestShown, IsNeverAtAll, IsSettled, IsShown, raises_left, steps_below, SatisfiesGains, total_gain, up, down}
+use Rattle.critical_cycle.specs.Searches.{IsAtShown}
+use Rattle.critical_cycle.specs.declared.search.Search.{Search}
 use Rattle.critical_cycle.specs.declared.shown.Shown.{Shown}
 use Rattle.critical_cycle.specs.declared.shown.Shown.TheVariants.{First, Value, Never}
 use Rattle.critical_cycle.proofs.MeasureLemmas.{satisfies_ratio, total_gain-sums}
@@ -133,6 +135,23 @@ raise_shows measure constraints first before cycle old Never ratio small is grea
       },
       omega (arith, left_at measure first old ratio greatest),
     )
+
+-- so does a ring that is gone round, whose places come last
+pub ring_shows : (search : Search) (start : ℕ) (places cycle : List ℕ) (new : Shown)
+    → IsAtShown search → cycle ≡ drop start places
+    → AreWithin search.constraints.now (drop start places)
+    → IsCycle (constraints_at search.constraints.now (drop start places))
+    → pos 0 <ℤ total_gain search.trial (constraints_at search.constraints.now (drop start places))
+    → IsRaise search.measure search.ratio (constraints_at search.constraints.now cycle) new
+    → IsShown search.measure search.constraints.now search.first (drop start places) new
+    × (raises_left search.measure search.first new
+    < raises_left search.measure search.first search.shown)
+ring_shows search start places cycle new at is within is_cycle gains raise =
+    let judged = subst (λ ps. IsRaise search.measure search.ratio
+    (constraints_at search.constraints.now ps) new) is raise in
+    raise_shows search.measure search.constraints.now search.first _ (drop start places) search.shown
+    new search.ratio search.can search.shows at.greatest within is_cycle
+    (not_kept search.measure search.ratio search.trial _ new at.at gains judged) judged
 
 -- two constraints that close a cycle join two registers
 pub two_registers : (registers : ℕ) (constraints : List Constraint) (place : ℕ)

@@ -1,5 +1,5 @@
 -- The words that the proofs of this crate have in common.
-pub use Rattle.std.proofs.Common.{◌≡◌, ◌+◌, ◌*◌, ℤ, pos, ◌-ℤ◌, ◌*ℤ◌, ap, arith, ℕ, ◌≤◌, ◌^◌, Bool, true, false, if◌then◌else◌, negsuc, neg_ℤ, ◌+ℤ◌, ◌≤ℤ◌, ◌<ℤ◌, List, [], ◌∷◌, length, get_or, refl, sym, ◌∙◌, subst, to_z, of_z, All, Contains, ◌<◌, suc, FitsSigned, zero, ◌++◌, take, drop, ◌≢◌, ◌-◌, set, Some, AllPairs, Option, None, ◌/◌, ⊎_elim, true≢false}
+pub use Rattle.std.proofs.Common.{◌≡◌, ◌+◌, ◌*◌, ℤ, pos, ◌-ℤ◌, ◌*ℤ◌, ap, arith, ℕ, ◌≤◌, ◌^◌, Bool, true, false, if◌then◌else◌, negsuc, neg_ℤ, ◌+ℤ◌, ◌≤ℤ◌, ◌<ℤ◌, List, [], ◌∷◌, length, get_or, refl, sym, ◌∙◌, subst, to_z, of_z, All, Contains, ◌<◌, suc, FitsSigned, zero, ◌++◌, take, drop, ◌≢◌, ◌-◌, set, Some, AllPairs, Option, None, ◌/◌, ⊎_elim, true≢false, rules}
 pub use Rattle.std.proofs.Math.Nat.{mul-le-mul_left, div-mul-le_self}
 pub use Rattle.std.proofs.lemmas.Bool.{cases_lt}
 pub use Rattle.std.proofs.lemmas.Int.{ints, unsigned_abs-mul, by_lt_z, to_z-of_z}
@@ -28,6 +28,6 @@ pub use Rattle.critical_cycle.specs.Periods.{HasForbidding, HasSmallValue, IsFlo
 pub use Rattle.critical_cycle.specs.Raises.{IsRaisedTo, NeverCounts, IsRaise}
 pub use Rattle.critical_cycle.specs.RatioSizes.{most_weight}
 pub use Rattle.critical_cycle.specs.Ratios.{IsForbiddenBy, IsRatioOf, IsShownRatio}
-pub use Rattle.critical_cycle.specs.Searches.{ClosesWithNext, last_cycle, IsSameSearch, IsSearch}
+pub use Rattle.critical_cycle.specs.Searches.{ClosesWithNext, IsSameSearch}
 pub use Rattle.critical_cycle.specs.ShownRatios.{IsNeverShown, IsValueShown, IsGreatestShown, IsNeverAtAll, IsSettled, IsShown, raises_left, steps_below}
 pub use Rattle.critical_cycle.specs.declared.measure.Measure.{Measure}

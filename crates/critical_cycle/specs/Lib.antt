@@ -4,6 +4,8 @@ pub mod Floors
 pub mod CyclePlaces
 pub mod Raises
 pub mod ShownRatios
+pub mod OneShown
 pub mod Searches
 pub mod Ratios
 pub mod Periods
+pub mod Vocabulary

@@ -1,22 +1,27 @@
 -- The search for the greatest ratio: what it keeps from trial to trial.
-use Rattle.std.specs.Prelude.{◌≡◌, ◌≢◌, ◌<◌, ◌≤◌, ◌+◌, ℕ, List, drop, length, slice_index_or}
+use Rattle.std.specs.Prelude.{◌≡◌, ◌≢◌, ◌<◌, ◌+◌, ℕ, List, length, slice_index_or}
+use Rattle.cts_base.specs.declared.fraction.Fraction.{Fraction}
 use Rattle.cts_model.specs.declared.constraint.Constraint.{Constraint}
-use Rattle.relaxation.specs.Relaxing.{HasEntries, IsFarUp}
-use Rattle.critical_cycle.specs.Measures.{CanTry, IsTrialAt}
-use Rattle.critical_cycle.specs.ShownRatios.{IsGreatestShown, IsShown}
+use Rattle.relaxation.specs.Relaxing.{IsFarUp}
+use Rattle.critical_cycle.specs.Measures.{IsTrialAt}
+use Rattle.critical_cycle.specs.ShownRatios.{IsGreatestShown}
+use Rattle.critical_cycle.specs.declared.measure.Measure.{Measure}
 use Rattle.critical_cycle.specs.declared.search.Search.{Search}
+use Rattle.critical_cycle.specs.declared.trials.Trials.{Trials}
 
--- the places of the cycle that was gone round last
-abbrev pub last_cycle : Search → List ℕ
-last_cycle search = drop search.start search.places.items
+-- the search is for the greatest ratio of these constraints from the first one on
+pub record IsSearchFor (constraints : List Constraint) (measure : Measure) (first : Fraction)
+    (search : Search) : Type 0 where
+  pub constraints_are : search.constraints.now ≡ constraints
+  pub measure_is : search.measure ≡ measure
+  pub first_is : search.first ≡ first
 
--- there is room for each register, and the cycle shows what is said to be shown
-pub record IsSearch (constraints : List Constraint) (search : Search) : Type 0 where
-  pub room : HasEntries constraints search.relaxation
-  pub places : length search.places.items ≡ length search.relaxation.parents.items
-  pub start : search.start ≤ length search.places.items
-  pub first : CanTry search.measure search.first
-  pub shown : IsShown search.measure constraints search.first (last_cycle search) search.shown
+-- the search is for the same as before, over as many registers
+pub record IsSameSearch (old new : Search) : Type 0 where
+  pub constraints : new.constraints.now ≡ old.constraints.now
+  pub measure : new.measure ≡ old.measure
+  pub first : new.first ≡ old.first
+  pub registers : length new.places.items ≡ length old.places.items
 
 -- the trial is that of the greatest ratio shown
 pub record IsAtShown (search : Search) : Type 0 where
@@ -24,15 +29,9 @@ pub record IsAtShown (search : Search) : Type 0 where
   pub greatest : IsGreatestShown search.first search.shown search.ratio
 
 -- a register far up the parents of the trial at the greatest ratio shown
-pub record IsAtRing (constraints : List Constraint) (search : Search) (register : ℕ) : Type 0 where
-  pub far_up : IsFarUp constraints search.trial search.relaxation register
-  pub at_shown : IsAtShown search
-
--- the search is for the same as before, over as many registers
-pub record IsSameSearch (old new : Search) : Type 0 where
-  pub measure : new.measure ≡ old.measure
-  pub first : new.first ≡ old.first
-  pub registers : length new.relaxation.parents.items ≡ length old.relaxation.parents.items
+pub record IsAtRing (trials : Trials) (register : ℕ) : Type 0 where
+  pub far_up : IsFarUp trials.search.constraints.now trials.search.trial trials.relaxation register
+  pub at_shown : IsAtShown trials.search
 
 -- the two lead to one another's tail, and those are two registers
 pub record CloseACycle (first second : Constraint) : Type 0 where

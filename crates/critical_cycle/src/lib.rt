@@ -2,14 +2,17 @@
 //! the least clock period that the constraints admit is one.
 #![tactic(auto)]
 
+mod cycle;
 mod measure;
 mod period;
+mod policy;
 mod raise;
 mod ratio;
 mod ring;
 mod search;
 mod shown;
 mod sums;
+mod trials;
 
 pub use measure::Measure;
 pub use period::{Period, least_period, least_period_in};

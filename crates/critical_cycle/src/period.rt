@@ -1,8 +1,5 @@
 ghost use Rattle.std.specs.Prelude.{◌≡◌, ◌↔◌, IfOk, length};
-ghost use Rattle.cts_model.specs.timing.Constraints.{AreSmallConstraints};
-ghost use Rattle.cts_model.specs.timing.Cycles.{IsLeastPeriodOf};
-ghost use Rattle.critical_cycle.specs.Periods.{HasForbidding, HasSmallValue, IsFloor, IsNeverPeriod, IsPeriodOf, period_of};
-ghost use Rattle.critical_cycle.specs.Floors.{IsSmallFloor};
+ghost use Rattle.critical_cycle.specs.Vocabulary.{AreSmallConstraints, HasForbidding, HasSmallValue, IsFloor, IsLeastPeriodOf, IsNeverPeriod, IsPeriodOf, IsSmallFloor, period_of};
 
 use crate::measure::Measure;
 use crate::ratio::{Ratio, greatest_ratio, greatest_ratio_in};

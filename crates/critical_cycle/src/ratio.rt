@@ -1,18 +1,15 @@
 ghost use Rattle.std.specs.Prelude.{◌≡◌, ◌<◌, ◌++◌, ℕ, IfOk, drop, length, take};
-ghost use Rattle.cts_model.specs.timing.Constraints.{AreSmallConstraints};
-ghost use Rattle.critical_cycle.specs.CyclePlaces.{AreWithin, IsFromLowest, constraints_at};
-ghost use Rattle.critical_cycle.specs.Measures.{CanTry};
-ghost use Rattle.critical_cycle.specs.Ratios.{IsRatioOf};
-ghost use Rattle.critical_cycle.specs.Searches.{IsSearch};
-ghost use Rattle.critical_cycle.specs.ShownRatios.{IsSettled};
+ghost use Rattle.critical_cycle.specs.Vocabulary.{AreSmallConstraints, AreWithin, CanTry, IsFromLowest, IsRatioOf, IsSettled, constraints_at};
 
+use crate::cycle::Cycle;
 use crate::measure::Measure;
-use crate::ring::turn_to_lowest;
+use crate::policy::Policy;
 use crate::search::Search;
 use crate::shown::Shown;
+use crate::trials::Trials;
 use cts_base::{Fraction, Listed, NoMemory};
 use cts_model::Constraint;
-use relaxation::{Relaxation, Turns};
+use relaxation::{Relaxation, Rounds};
 use std::alloc::Global;
 
 /// The greatest ratio of the cycles of constraints, at or above a first one. It is the least ratio
@@ -56,14 +53,15 @@ pub fn greatest_ratio(
     ensures ratio { IfOk result (IsRatioOf measure constraints.now first) }
 {
     let list = constraints.as_slice();
-    let relaxation = Relaxation::new(alloc, registers)?;
     let places = vec![in alloc; 0u32; registers]?;
-    let mut marks = vec![in alloc; 0u32; registers]?;
-    let mut search = Search::at_first(measure, first, relaxation, places);
-    search.look_at_short_cycles(list);
-    let mut turns = Turns::new(alloc, registers, list, search.trial)?;
-    search.iterate(list, &mut marks, &mut turns);
-    Ok(settled(search, list))
+    let mut search = Search::at_first(list, measure, first, places);
+    search.look_at_short_cycles();
+    let rounds = Rounds::new(alloc, registers, list, search.trial)?;
+    let mut policy = Policy { search, rounds };
+    policy.iterate();
+    let Policy { search, rounds } = policy;
+    let relaxation = rounds.relaxation;
+    Ok(settled(Trials { search, relaxation }))
 }
 
 /// The same without policy iteration, in lists with an entry for each register that may hold any.
@@ -83,44 +81,45 @@ pub(crate) fn greatest_ratio_in(
     ensures ratio { IsRatioOf measure constraints.now first result }
 {
     let list = constraints.as_slice();
-    let relaxation = Relaxation::from_zero(values.into_vec(), parents.into_vec());
-    let mut search = Search::at_first(measure, first, relaxation, cycle.into_vec());
-    search.look_at_short_cycles(list);
-    settled(search, list)
+    let mut search = Search::at_first(list, measure, first, cycle.into_vec());
+    search.look_at_short_cycles();
+    let relaxation = Relaxation::from_zero(list, values.into_vec(), parents.into_vec());
+    settled(Trials { search, relaxation })
 }
 
 // What a search shows once it has settled: a ratio that isn't enough is raised.
-fn settled(search: Search, constraints: &[Constraint]) -> Ratio
-    requires { IsSearch constraints.now search }
-    ensures { IsRatioOf search.measure constraints.now search.first result }
+fn settled(trials: Trials<'_>) -> Ratio
+    ensures { IsRatioOf trials.entry.search.measure trials.entry.search.constraints.now
+        trials.entry.search.first result }
 {
-    let mut search = search;
-    while let Some(register) = search.settle(constraints) {
-        search.raise(constraints, register);
+    let mut trials = trials;
+    while let Some(register) = trials.settle() {
+        trials = trials.raise(register);
     }
-    ratio_of(search, constraints)
+    ratio_of(trials.search)
 }
 
 // What a search that has settled shows.
-fn ratio_of(search: Search, constraints: &[Constraint]) -> Ratio
-    requires search { IsSearch constraints.now search }
-    requires settled { IsSettled search.measure constraints.now search.first search.shown }
-    ensures { IsRatioOf search.measure constraints.now search.first result }
+fn ratio_of(search: Search<'_>) -> Ratio
+    requires { IsSettled search.measure search.constraints.now search.first search.shown }
+    ensures { IsRatioOf search.entry.measure search.entry.constraints.now search.entry.first
+        result }
 {
     match search.shown {
         Shown::First => Ratio::First,
         Shown::Value(value) => Ratio::Cycle {
             value,
-            cycle: cycle_of(search.places, search.start, constraints),
+            cycle: cycle_of(search.places, search.start, search.constraints),
         },
         Shown::Never => Ratio::Never {
-            cycle: cycle_of(search.places, search.start, constraints),
+            cycle: cycle_of(search.places, search.start, search.constraints),
         },
     }
 }
 
 // The cycle whose places come last in the list, from the lowest tail on.
 fn cycle_of(places: Vec<u32>, start: usize, constraints: &[Constraint]) -> Listed<u32>
+    requires small { AreSmallConstraints (length places.items) constraints.now }
     requires start { start < length places.items }
     requires within { AreWithin constraints.now (drop start places.items) }
     ensures rotated { (turn : ℕ) × (result
@@ -131,6 +130,11 @@ fn cycle_of(places: Vec<u32>, start: usize, constraints: &[Constraint]) -> Liste
     let len = cycle.len() - start;
     cycle.rotate_left(start);
     cycle.truncate(len);
-    turn_to_lowest(&mut cycle, constraints);
+    let turn = Cycle {
+        constraints,
+        places: cycle.as_slice(),
+    };
+    let lowest = turn.place_of_lowest();
+    cycle.rotate_left(lowest);
     Listed::from_vec(cycle)
 }

@@ -1,9 +1,7 @@
-ghost use Rattle.std.specs.Prelude.{◌≡◌, ◌≤◌, ◌^◌, ◌↔◌, IsTrue, pos, ◌+ℤ◌, ◌-ℤ◌, ◌*ℤ◌, ◌<ℤ◌, if◌then◌else◌, All, length};
-ghost use Rattle.cts_model.specs.timing.Constraints.{count_of};
-ghost use Rattle.cts_model.specs.timing.Cycles.{total_count, total_weight};
-ghost use Rattle.cts_model.specs.placement.Points.{IsBelow};
-ghost use Rattle.critical_cycle.specs.CyclePlaces.{AreWithin, constraints_at};
+ghost use Rattle.std.specs.Prelude.{◌≡◌, ◌^◌, ◌↔◌, IsTrue, pos, ◌+ℤ◌, ◌-ℤ◌, ◌*ℤ◌, ◌<ℤ◌, if◌then◌else◌};
+ghost use Rattle.critical_cycle.specs.Vocabulary.{IsBelow, constraints_at, count_of, total_count, total_weight};
 
+use crate::cycle::Cycle;
 use crate::measure::Measure;
 use cts_base::Fraction;
 use cts_model::Constraint;
@@ -18,22 +16,19 @@ pub(crate) struct Sums {
 }
 
 impl Sums {
-    /// The weights in ticks of the constraints at these places of the list, and how many of these
-    /// are setup constraints.
-    pub(crate) fn of(constraints: &[Constraint], cycle: &[u32]) -> Sums
-        requires within { AreWithin constraints.now cycle.now }
-        requires few { length cycle.now ≤ 4097 }
-        requires small { All (λ constraint. IsBelow (10 ^ 11) constraint.weight) constraints.now }
-        ensures weight { result.weight ≡ total_weight (constraints_at constraints.now cycle.now) }
+    /// The weights in ticks of the constraints, and how many of these are setup constraints.
+    pub(crate) fn of(cycle: &Cycle<'_>) -> Sums
+        ensures weight { result.weight
+            ≡ total_weight (constraints_at cycle.now.constraints.now cycle.now.places.now) }
         ensures count { result.count
-            ≡ pos (total_count (constraints_at constraints.now cycle.now)) }
+            ≡ pos (total_count (constraints_at cycle.now.constraints.now cycle.now.places.now)) }
     {
         let mut sums = Sums {
             weight: 0,
             count: 0,
         };
-        for place in cycle {
-            sums = sums.and(&constraints[*place as usize]);
+        for place in cycle.places {
+            sums = sums.and(&cycle.constraints[*place as usize]);
         }
         sums
     }

@@ -1,6 +1,6 @@
 -- Sweeps by turns: each that changes something raises one more parent above the register that
 -- changed last.
-use Rattle.relaxation.proofs.Vocabulary.{◌≡◌, ◌<◌, ◌≤◌, ◌+◌, ◌*◌, ◌^◌, ℕ, ℤ, List, length, replicate, All, true, false, Option, Some, None, ◌⊎◌, inl, inr, sym, subst, refl, arith, ⊤, is_some, cases_lt, length-replicate, Constraint, IsBelow, AreSmallConstraints, Gains, Relaxation, AdmitsGains, SatisfiesGains, ReachesUp, parent_of, value_of, IsFarUp, AreRaisedBy, IsReady, IsSwept, IsSweep}
+use Rattle.relaxation.proofs.Vocabulary.{◌≡◌, ◌<◌, ◌≤◌, ◌+◌, ◌*◌, ◌^◌, ℕ, ℤ, List, length, replicate, All, true, false, Option, Some, None, ◌⊎◌, inl, inr, sym, subst, refl, ◌∙◌, arith, ⊤, is_some, cases_lt, length-replicate, Constraint, IsBelow, AreSmallConstraints, Gains, Relaxation, AdmitsGains, SatisfiesGains, ReachesUp, parent_of, value_of, IsFarUp, AreRaisedBy, IsReady, IsSwept, IsSweep}
 use Rattle.relaxation.proofs.Climbs.{none_far_up}
 use Rattle.relaxation.proofs.PrepareLemmas.{no_parents}
 use Rattle.relaxation.proofs.RiseLemmas.{AreRaisedBy-none, AreRaisedBy-more, small_raised, small_wider}
@@ -39,12 +39,13 @@ IsSettling-none {constraints} {gains} {values} parents smalls long room none = r
 
 -- and where none are kept
 pub IsSettling-unkept : {constraints : List Constraint} {gains : Gains} {values : List ℤ}
-    → AreSmallConstraints (length values) constraints → All (IsBelow (2 ^ 94)) values
-    → IsSettling constraints gains 0 values values (replicate (length values) 4294967295)
-IsSettling-unkept {constraints} {gains} {values} smalls room =
-    IsSettling-none (replicate (length values) 4294967295) smalls
-    (length-replicate {A = ℕ} (length values) 4294967295) room
-    (λ register. no_parents (length values) constraints register smalls.few)
+    (registers : ℕ) → registers ≡ length values → AreSmallConstraints (length values) constraints
+    → All (IsBelow (2 ^ 94)) values
+    → IsSettling constraints gains 0 values values (replicate registers 4294967295)
+IsSettling-unkept {constraints} registers whole smalls room =
+    IsSettling-none (replicate registers 4294967295) smalls
+    (length-replicate {A = ℕ} registers 4294967295 ∙ whole) room
+    (λ register. no_parents registers constraints register smalls.few)
 
 module _ {constraints : List Constraint} {gains : Gains} {sweeps : ℕ} {begun now : List ℤ}
     {parents : List ℕ} (settling : IsSettling constraints gains sweeps begun now parents) where
@@ -99,32 +100,42 @@ module _ {constraints : List Constraint} {gains : Gains} {sweeps : ℕ} {begun n
           raised = raised_later raised;
         }
 
-module _ {constraints : List Constraint} {gains : Gains} {sweep : ℕ} {old new : Relaxation}
-    {answer : Option ℕ} (swept : IsSweep constraints gains old answer new) where
+module _ {constraints : List Constraint} {gains : Gains} {old new : Relaxation}
+    {answer : Option ℕ} (kept : old.constraints.now ≡ constraints)
+    (left : IsSweep old.constraints.now gains old answer new) where
+  -- the sweep is over the same constraints
+  pub swept : IsSweep constraints gains old answer new
+  swept = subst (λ them. IsSweep them gains old answer new) kept left
+
+  -- which the values have still
+  pub kept_later : new.constraints.now ≡ constraints
+  kept_later = left.constraints_kept ∙ kept
+
   -- a sweep that changed nothing leaves values that satisfy the constraints
-  pub satisfied_swept : (parents : List ℕ) → length parents ≡ length old.values.items
+  pub satisfied_swept : {sweep : ℕ} (parents : List ℕ) → length parents ≡ length old.values.items
       → IsReady constraints gains sweep old.values.items parents → answer ≡ None
       → SatisfiesGains constraints gains 1 (value_of new.values.items)
-  satisfied_swept parents long ready none =
-      let left = swept.swept sweep parents long ready in
-      SatisfiesGains-swept constraints gains sweep new.values.items left.later (subst
-      (λ o. IsSwept constraints gains sweep o new.values.items left.later) none left.sweeping)
+  satisfied_swept {sweep} parents long ready none =
+      let after = swept.swept sweep parents long ready in
+      SatisfiesGains-swept constraints gains sweep new.values.items after.later (subst
+      (λ o. IsSwept constraints gains sweep o new.values.items after.later) none after.sweeping)
 
-  module _ (changed : ℕ) (some : answer ≡ Some changed)
+  module _ {sweep : ℕ} (changed : ℕ) (some : answer ≡ Some changed)
       (long : length old.parents.items ≡ length old.values.items)
       (ready : IsReady constraints gains sweep old.values.items old.parents.items) where
     -- one that changed a register leaves the parents that are kept
     pub swept_own
         : IsSwept constraints gains sweep (Some changed) new.values.items new.parents.items
     swept_own =
-        let left = swept.swept sweep old.parents.items long ready in
+        let after = swept.swept sweep old.parents.items long ready in
         subst (λ o. IsSwept constraints gains sweep o new.values.items new.parents.items) some
         (subst (λ (parents : List ℕ). IsSwept constraints gains sweep answer new.values.items
-        parents) (left.kept refl) left.sweeping)
+        parents) (after.kept refl) after.sweeping)
 
     -- where so many of them are above it, the climb stands far up
-    pub far_up : (register : ℕ) → register < length new.values.items → ReachesUp
-        constraints new.parents.items changed register → IsFarUp constraints gains new register
+    pub far_up : (register : ℕ) → register < length new.values.items
+        → ReachesUp constraints new.parents.items changed register
+        → IsFarUp constraints gains new register
     far_up register within reaches = record {
       are_parents = swept_own.are_parents;
       within = within;
@@ -139,14 +150,17 @@ module _ {constraints : List Constraint} {gains : Gains} {sweep : ℕ} {old new 
 -- where some values satisfy the constraints, sweeps go on while they change something
 pub IsSettling-admitted : {constraints : List Constraint} {gains : Gains} {sweeps : ℕ}
     {begun : List ℤ} {now later : Relaxation} {parents : List ℕ} → AdmitsGains constraints gains
+    → now.constraints.now ≡ constraints
     → (settling : IsSettling constraints gains sweeps begun now.values.items parents)
-    → (answer : Option ℕ) → is_some answer ≡ true → IsSweep constraints gains now answer later
+    → (answer : Option ℕ) → is_some answer ≡ true
+    → IsSweep now.constraints.now gains now answer later
     → (next : List ℕ) × IsSettling constraints gains (sweeps + 1) begun later.values.items next
-IsSettling-admitted {sweeps = sweeps} {parents = parents} admitted settling (Some changed) some
-    swept =
-    let left = swept.swept (sweeps + 1) parents settling.long settling.ready in (
+IsSettling-admitted {sweeps = sweeps} {parents = parents} admitted kept settling (Some changed) some
+    sweep =
+    let whole = swept kept sweep in
+    let left = whole.swept (sweeps + 1) parents settling.long settling.ready in (
       left.later,
-      IsSettling-more settling left.long left.sweeping swept.raised
+      IsSettling-more settling left.long left.sweeping whole.raised
           (none_admitted settling left.long left.sweeping admitted),
     )
-IsSettling-admitted admitted settling None some swept = cc
+IsSettling-admitted admitted kept settling None some sweep = cc

@@ -1,5 +1,5 @@
 -- How far a sweep has come: what one constraint after the other makes of all values.
-use Rattle.relaxation.proofs.Vocabulary.{◌≡◌, ◌<◌, ◌≤◌, ◌+◌, ◌^◌, ◌∙◌, ℕ, ℤ, pos, ◌≤ℤ◌, List, length, get_or, set, All, Option, Some, None, MatchOption, IfSome, ◌⊎◌, sym, subst, ap, refl, arith, slice_get, ⊤, Bool, true, false, inl, inr, ◌-◌, cases_lt, option_or, length-set, slice_get-get_or, slice_get_within, Constraint, AreSmallConstraints, IsSmallConstraint, IsBelow, Gains, Relaxation, value_of, HasEntries, HasRisen, HasRoom, IsLeft, IsRaised, IsRelaxed, AreRaisedBy, IsSweeping, IsReady, IsSweep, LeavesParents}
+use Rattle.relaxation.proofs.Vocabulary.{◌≡◌, ◌<◌, ◌≤◌, ◌+◌, ◌^◌, ◌∙◌, ℕ, ℤ, pos, ◌≤ℤ◌, List, length, get_or, set, All, Option, Some, None, MatchOption, IfSome, ◌⊎◌, sym, subst, ap, refl, arith, slice_get, ⊤, Bool, true, false, inl, inr, ◌-◌, cases_lt, option_or, length-set, get_or_read, slice_get-get_or, slice_get_within, Constraint, AreSmallConstraints, IsSmallConstraint, IsBelow, Gains, Relaxation, value_of, IsLeft, IsRaised, IsRelaxed, AreRaised, AreRaisedBy, IsSweeping, IsReady, IsSweep, LeavesParents}
 use Rattle.relaxation.specs.Places.{place_at}
 use Rattle.relaxation.proofs.RelaxLemmas.{nowhere}
 use Rattle.relaxation.proofs.RiseLemmas.{AreRaised-more, AreRaisedBy-none, AreRaisedBy-one, AreRaisedBy-more, small_capped, small_raised}
@@ -10,15 +10,6 @@ use Rattle.relaxation.proofs.SweepLemmas.{IsSweeping-fewer, IsSweeping-left, IsS
 abbrev IsLook : Gains → ℕ → Constraint → Relaxation → Option ℕ → Relaxation → Type 0
 IsLook gains place constraint old answer new = MatchOption answer (IsLeft gains constraint old new)
     (λ (register : ℕ). IsRaised gains place constraint old register new)
-
--- there is an entry for each register still
-pub entries_kept : {constraints : List Constraint} {old new : Relaxation}
-    → length new.values.items ≡ length old.values.items → length new.parents.items
-    ≡ length old.parents.items → HasEntries constraints old → HasEntries constraints new
-entries_kept {constraints} values parents entries = record {
-  small = subst (λ n. AreSmallConstraints n constraints) (sym values) entries.small;
-  parents = omega (arith, values, parents, entries.parents);
-}
 
 -- a look at the constraint at a place
 module _ {constraints : List Constraint} (gains : Gains) {place : ℕ} (old new : Relaxation)
@@ -42,7 +33,13 @@ module _ {constraints : List Constraint} (gains : Gains) {place : ℕ} (old new 
   parents_length (Some register) raised = ap length raised.parents
       ∙ length-set old.parents.items (get_or constraints place nowhere).head place
 
-  -- (get_or constraints place nowhere) is at most one raise
+  -- and so do the constraints
+  constraints_look : (answer : Option ℕ) → IsLook gains place (get_or constraints place nowhere)
+      old answer new → new.constraints.now ≡ old.constraints.now
+  constraints_look None left = left.constraints
+  constraints_look (Some register) raised = raised.constraints
+
+  -- it is at most one raise
   raised_look : (answer : Option ℕ) → IsLook gains place (get_or constraints place nowhere)
       old answer new → AreRaisedBy constraints gains 1 old.values.items new.values.items
   raised_look None left = subst (AreRaisedBy constraints gains 1 old.values.items) (sym left.values)
@@ -102,18 +99,22 @@ seen_all places true place within = (place, within, refl)
 seen_all places false place within = (places - 1 - place, omega arith, omega arith)
 
 -- how far a sweep has come that has seen so many constraints
-pub record IsUnderWay (constraints : List Constraint) (gains : Gains) (forwards : Bool)
-    (turns : ℕ) (changed : Option ℕ) (begun now : Relaxation) : Type 0 where
+pub record IsUnderWay (gains : Gains) (forwards : Bool) (turns : ℕ) (changed : Option ℕ)
+    (begun now : Relaxation) : Type 0 where
+  pub constraints_kept : now.constraints.now ≡ begun.constraints.now
   pub parents : length now.parents.items ≡ length begun.parents.items
-  pub raised : AreRaisedBy constraints gains turns begun.values.items now.values.items
+  pub raised
+      : AreRaisedBy begun.constraints.now gains turns begun.values.items now.values.items
   pub swept : (sweep : ℕ) (parents : List ℕ) → length parents ≡ length begun.values.items
-      → IsReady constraints gains sweep begun.values.items parents → LeavesParents constraints gains
-      sweep (IsSeen (length constraints) forwards turns) changed begun now parents
+      → IsReady begun.constraints.now gains sweep begun.values.items parents
+      → LeavesParents begun.constraints.now gains sweep
+      (IsSeen (length begun.constraints.now) forwards turns) changed begun now parents
 
 -- before the first
-pub IsUnderWay-none : {constraints : List Constraint} {gains : Gains} {forwards : Bool}
-    (begun : Relaxation) → IsUnderWay constraints gains forwards 0 None begun begun
+pub IsUnderWay-none : {gains : Gains} {forwards : Bool} (begun : Relaxation)
+    → IsUnderWay gains forwards 0 None begun begun
 IsUnderWay-none begun = record {
+  constraints_kept = refl;
   parents = refl;
   raised = AreRaisedBy-none 0 begun.values.items;
   swept = λ sweep parents long ready. record {
@@ -125,14 +126,16 @@ IsUnderWay-none begun = record {
   };
 }
 
-module _ {constraints : List Constraint} {gains : Gains} {forwards : Bool} {turns : ℕ}
-    {changed : Option ℕ} {begun now : Relaxation}
-    (smalls : AreSmallConstraints (length begun.values.items) constraints)
-    (way : IsUnderWay constraints gains forwards turns changed begun now) where
-  -- the constraints are between these registers
-  pub smalls_now : AreSmallConstraints (length now.values.items) constraints
+module _ {gains : Gains} {forwards : Bool} {turns : ℕ} {changed : Option ℕ}
+    {begun now : Relaxation} (way : IsUnderWay gains forwards turns changed begun now) where
+  -- the constraints
+  abbrev constraints : List Constraint
+  constraints = begun.constraints.now
+
+  -- they are between these registers
+  smalls_now : AreSmallConstraints (length now.values.items) constraints
   smalls_now = subst (λ n. AreSmallConstraints n constraints)
-      (sym way.raised.raised.registers) smalls
+      (sym way.raised.raised.registers) begun.small
 
   -- the values are small still
   pub small_now : turns ≤ 2097152 → All (IsBelow (2 ^ 114)) begun.values.items
@@ -142,15 +145,17 @@ module _ {constraints : List Constraint} {gains : Gains} {forwards : Bool} {turn
   -- one more constraint is looked at
   pub IsUnderWay-more : {place : ℕ} (answer : Option ℕ) {later : Relaxation}
       → place ≡ place_at turns (length constraints) forwards → place < length constraints
-      → IsRelaxed constraints gains place now answer later
-      → IsUnderWay constraints gains forwards (turns + 1) (option_or answer changed) begun later
-  IsUnderWay-more {place} answer {later} is within relaxed = record {
-    parents = parents_length gains now later smalls_now within answer seen_now ∙ way.parents;
+      → IsRelaxed now.constraints.now gains place now answer later
+      → IsUnderWay gains forwards (turns + 1) (option_or answer changed) begun later
+  IsUnderWay-more {place} answer {later} is inside relaxed = record {
+    constraints_kept = constraints_look gains now later smalls_now inside answer seen_now
+        ∙ way.constraints_kept;
+    parents = parents_length gains now later smalls_now inside answer seen_now ∙ way.parents;
     raised = AreRaisedBy-more
-        (omega arith) way.raised (raised_look gains now later smalls_now within answer seen_now);
+        (omega arith) way.raised (raised_look gains now later smalls_now inside answer seen_now);
     swept = λ sweep parents long ready.
         let left = way.swept sweep parents long ready in
-        let next = sweeping_look gains now later smalls_now within answer seen_now sweep
+        let next = sweeping_look gains now later smalls_now inside answer seen_now sweep
         (IsSeen (length constraints) forwards (turns + 1)) changed next_or_before left.later
         (left.long ∙ long ∙ sym way.raised.raised.registers) left.sweeping in
         record {
@@ -162,7 +167,8 @@ module _ {constraints : List Constraint} {gains : Gains} {forwards : Bool} {turn
   }
     where
       seen_now : IsLook gains place (get_or constraints place nowhere) now answer later
-      seen_now = look gains now later smalls_now within answer relaxed
+      seen_now = look gains now later smalls_now inside answer
+          (subst (λ them. IsRelaxed them gains place now answer later) way.constraints_kept relaxed)
 
       -- the places seen
       next_or_before : (other : ℕ) → IsSeen (length constraints) forwards (turns + 1) other
@@ -177,6 +183,7 @@ module _ {constraints : List Constraint} {gains : Gains} {forwards : Bool} {turn
   -- after the last
   pub IsSweep-all : turns ≡ length constraints → IsSweep constraints gains begun changed now
   IsSweep-all whole = record {
+    constraints_kept = way.constraints_kept;
     parents = way.parents;
     raised = subst (λ n. AreRaisedBy constraints gains n begun.values.items now.values.items) whole
         way.raised;
@@ -193,22 +200,41 @@ module _ {constraints : List Constraint} {gains : Gains} {forwards : Bool} {turn
         };
   }
 
--- one constraint that is looked at, whose tail isn't above the cap, raises with room still
-pub HasRisen-one : {constraints : List Constraint} {gains : Gains} {place : ℕ} (answer : Option ℕ)
-    {old new : Relaxation} → HasRoom constraints old → place < length constraints
-    → value_of old.values.items (get_or constraints place nowhere).tail ≤ℤ pos (2 ^ 93)
-    → IsRelaxed constraints gains place old answer new → HasRisen constraints gains old new
-HasRisen-one {constraints} {gains} {place} answer {old} {new} room within capped relaxed =
-    let smalls = room.entries.small in
-    let seen : IsLook gains place (get_or constraints place nowhere) old answer new =
-    look gains old new smalls within answer relaxed in
-    let raised = (raised_look gains old new smalls within answer seen).raised in
+-- what is left where no values rise above what has room
+pub record IsRoomKept (gains : Gains) (old new : Relaxation) : Type 0 where
+  pub constraints : new.constraints.now ≡ old.constraints.now
+  pub registers : length new.values.items ≡ length old.values.items
+  pub parents : length new.parents.items ≡ length old.parents.items
+  pub small : All (IsBelow (2 ^ 94)) new.values.items
+  pub raised : (them : List Constraint) (begun : List ℤ) → old.constraints.now ≡ them
+      → AreRaised them gains begun old.values.items → AreRaised them gains begun new.values.items
+
+-- so where one constraint is looked at, whose tail isn't above the cap
+pub IsRoomKept-one : {gains : Gains} {place : ℕ} (answer : Option ℕ) (old : Relaxation)
+    {new : Relaxation} (tail : ℤ) {constraint : Constraint} → All (IsBelow (2 ^ 94)) old.values.items
+    → place < length old.constraints.now → constraint ≡ get_or old.constraints.now place nowhere
+    → tail ≡ get_or old.values.items constraint.tail tail → tail ≤ℤ pos (2 ^ 93)
+    → IsRelaxed old.constraints.now gains place old answer new → IsRoomKept gains old new
+IsRoomKept-one {gains} {place} answer old {new} tail {constraint} room within is read low relaxed =
     record {
-      room = record {
-        entries = entries_kept
-            raised.registers (parents_length gains old new smalls within answer seen) room.entries;
-        small = small_look gains old new smalls within capped room.small answer seen;
-      };
+      constraints = constraints_look gains old new old.small within answer seen;
       registers = raised.registers;
-      raised = λ begun before. AreRaised-more before raised;
+      parents = parents_length gains old new old.small within answer seen;
+      small = small_look gains old new old.small within capped room answer seen;
+      raised = λ them begun same before. AreRaised-more before
+          (subst (λ cs. AreRaised cs gains old.values.items new.values.items) same raised);
     }
+  where
+    seen : IsLook gains place (get_or old.constraints.now place nowhere) old answer new
+    seen = look gains old new old.small within answer relaxed
+
+    raised : AreRaised old.constraints.now gains old.values.items new.values.items
+    raised = (raised_look gains old new old.small within answer seen).raised
+
+    -- what is read at the tail is its value
+    capped : value_of old.values.items (get_or old.constraints.now place nowhere).tail
+        ≤ℤ pos (2 ^ 93)
+    capped = subst (λ z. z ≤ℤ pos (2 ^ 93)) (get_or_read old.values.items
+        (get_or old.constraints.now place nowhere).tail tail
+        (old.small.each place nowhere within).tail (subst (λ (c : Constraint). tail
+        ≡ get_or old.values.items c.tail tail) is read) (pos 0)) low

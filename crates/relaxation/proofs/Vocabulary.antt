@@ -14,9 +14,11 @@ pub use Rattle.cts_model.specs.placement.Points.{IsBelow}
 pub use Rattle.cts_model.specs.timing.Constraints.{AreSmallConstraints, IsSmallConstraint}
 pub use Rattle.relaxation.specs.Gains.{AdmitsGains, SatisfiesGains, gain_of, total_gain}
 pub use Rattle.relaxation.specs.Parents.{parent_of, Climbs, AreParents, EndsClimb, HaveOwnHeads, value_of, ReachesUp}
-pub use Rattle.relaxation.specs.Relaxing.{offer_of, GivesMore, IsLeft, IsRaised, IsRelaxed, IsFarUp, HasEntries, HasRisen, HasRoom}
+pub use Rattle.relaxation.specs.Relaxing.{offer_of, GivesMore, IsLeft, IsRaised, IsRelaxed, IsFarUp, IsFromZero}
 pub use Rattle.relaxation.specs.Rises.{AreRaised, AreRaisedBy}
 pub use Rattle.relaxation.specs.Sweeps.{IsReady, IsSwept, IsSweep, IsSweeping, LeavesParents}
 pub use Rattle.relaxation.specs.Tails.{IsLastBefore, AreByTail}
+pub use Rattle.relaxation.specs.Rounds.{AreSameRounds, HasRisen}
 pub use Rattle.relaxation.specs.declared.gains.Gains.{Gains}
 pub use Rattle.relaxation.specs.declared.relaxation.Relaxation.{Relaxation}
+pub use Rattle.relaxation.specs.declared.rounds.Rounds.{Rounds}

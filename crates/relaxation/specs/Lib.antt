@@ -4,5 +4,6 @@ pub mod Parents
 pub mod Places
 pub mod Rises
 pub mod Relaxing
+pub mod Rounds
 pub mod Sweeps
 pub mod Tails

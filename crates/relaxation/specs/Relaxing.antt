@@ -1,32 +1,17 @@
 -- How values of registers are raised in place until constraints hold, each with the constraint that
 -- raised it. Cherkassky and Goldberg, "Negative-cycle detection algorithms", 1999.
-use Rattle.std.specs.Prelude.{◌≡◌, ◌<◌, ◌^◌, All, ℕ, ℤ, ◌+ℤ◌, ◌≤ℤ◌, ◌<ℤ◌, List, length, slice_get, slice_set, Option, IfSome, MatchOption}
+use Rattle.std.specs.Prelude.{◌≡◌, ◌<◌, ℕ, ℤ, pos, ◌+ℤ◌, ◌≤ℤ◌, ◌<ℤ◌, List, length, replicate, slice_get, slice_set, Option, IfSome, MatchOption}
 use Rattle.cts_model.specs.declared.constraint.Constraint.{Constraint}
-use Rattle.cts_model.specs.placement.Points.{IsBelow}
-use Rattle.cts_model.specs.timing.Constraints.{AreSmallConstraints}
 use Rattle.relaxation.specs.declared.gains.Gains.{Gains}
 use Rattle.relaxation.specs.declared.relaxation.Relaxation.{Relaxation}
 use Rattle.relaxation.specs.Gains.{gain_of}
 use Rattle.relaxation.specs.Parents.{value_of, AreParents, EndsClimb}
-use Rattle.relaxation.specs.Rises.{AreRaised}
 
--- a value and a parent for each register
-pub record HasEntries (constraints : List Constraint) (relaxation : Relaxation) : Type 0 where
-  pub small : AreSmallConstraints (length relaxation.values.items) constraints
-  pub parents : length relaxation.parents.items ≡ length relaxation.values.items
-
--- and room above the values
-pub record HasRoom (constraints : List Constraint) (relaxation : Relaxation) : Type 0 where
-  pub entries : HasEntries constraints relaxation
-  pub small : All (IsBelow (2 ^ 94)) relaxation.values.items
-
--- the values have risen further from where they began, with room still
-pub record HasRisen (constraints : List Constraint) (gains : Gains) (old new : Relaxation) : Type 0
-  where
-    pub room : HasRoom constraints new
-    pub registers : length new.values.items ≡ length old.values.items
-    pub raised : (begun : List ℤ) → AreRaised constraints gains begun old.values.items
-        → AreRaised constraints gains begun new.values.items
+-- values of 0 for so many registers
+pub record IsFromZero (constraints : List Constraint) (registers : ℕ)
+    (relaxation : Relaxation) : Type 0 where
+  pub constraints_are : relaxation.constraints.now ≡ constraints
+  pub values : relaxation.values.items ≡ replicate registers (pos 0)
 
 -- what the constraint gives its head
 abbrev pub offer_of : Gains → List ℤ → Constraint → ℤ
@@ -44,6 +29,7 @@ pub record IsLeft (gains : Gains) (constraint : Constraint) (old new : Relaxatio
       ≤ℤ value_of old.values.items constraint.head
   pub values : new.values.items ≡ old.values.items
   pub parents : new.parents.items ≡ old.parents.items
+  pub constraints : new.constraints.now ≡ old.constraints.now
 
 -- a constraint that gives more is the head's parent now
 pub record IsRaised (gains : Gains) (place : ℕ) (constraint : Constraint) (old : Relaxation)
@@ -53,6 +39,7 @@ pub record IsRaised (gains : Gains) (place : ℕ) (constraint : Constraint) (old
   pub values : new.values.items
       ≡ slice_set old.values.items constraint.head (offer_of gains old.values.items constraint)
   pub parents : new.parents.items ≡ slice_set old.parents.items constraint.head place
+  pub constraints : new.constraints.now ≡ old.constraints.now
 
 -- the constraint at the place is looked at, and this register changed, if any did
 abbrev pub IsRelaxed : List Constraint → Gains → (place : ℕ) → (old : Relaxation)

@@ -53,6 +53,7 @@ pub record LeavesParents (constraints : List Constraint) (gains : Gains) (sweep 
 -- what a sweep leaves: the values are raised at most once a constraint
 pub record IsSweep (constraints : List Constraint) (gains : Gains) (old : Relaxation)
     (changed : Option ℕ) (new : Relaxation) : Type 0 where
+  pub constraints_kept : new.constraints.now ≡ old.constraints.now
   pub parents : length new.parents.items ≡ length old.parents.items
   pub raised : AreRaisedBy constraints gains (length constraints) old.values.items new.values.items
   pub swept : (sweep : ℕ) (parents : List ℕ) → length parents ≡ length old.values.items

@@ -6,11 +6,12 @@ mod follow;
 mod gains;
 mod policy;
 mod relaxation;
+mod rounds;
 mod strong;
 mod tails;
 mod turns;
 
 pub use gains::Gains;
 pub use relaxation::Relaxation;
+pub use rounds::Rounds;
 pub use tails::ByTail;
-pub use turns::Turns;

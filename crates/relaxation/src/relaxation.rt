@@ -1,13 +1,10 @@
-ghost use Rattle.std.specs.Prelude.{◌≡◌, ◌<◌, ◌≤◌, ◌^◌, ℕ, pos, None, List, [], All, IfOk, IfSome, MatchOption, length, replicate, slice_set};
-ghost use Rattle.cts_model.specs.declared.constraint.Constraint.{Constraint};
+ghost use Rattle.std.specs.Prelude.{◌≡◌, ◌<◌, ◌^◌, ℕ, pos, None, All, IfSome, MatchOption, length, replicate, slice_set};
 ghost use Rattle.cts_model.specs.placement.Points.{IsBelow};
 ghost use Rattle.cts_model.specs.timing.Constraints.{AreSmallConstraints};
 ghost use Rattle.relaxation.specs.Places.{place_at};
 
 use crate::gains::Gains;
-use cts_base::NoMemory;
 use cts_model::Constraint;
-use std::alloc::Global;
 
 /// The parent of a register without one. No list of constraints has a place with this number.
 const NO_PARENT: u32 = u32::MAX;
@@ -16,64 +13,52 @@ const NO_PARENT: u32 = u32::MAX;
 /// it by turns. Bellman, "On a routing problem", 1958; with parents that show where no values will
 /// do: Cherkassky and Goldberg, "Negative-cycle detection algorithms", 1999.
 #[derive(Drop)]
-pub struct Relaxation {
+pub struct Relaxation<'a> {
+    /// The constraints.
+    pub constraints: &'a [Constraint],
     /// A value for each register, in ticks over the scale of the gains.
     pub values: Vec<i128>,
     /// For each register the place of the constraint that raised it last, or a number that is no
     /// place. The list is empty where no parents are kept.
     pub parents: Vec<u32>,
+    pub ghost small: { AreSmallConstraints (length values.items) constraints.now },
 }
 
-impl Relaxation {
+impl<'a> Relaxation<'a> {
     ghost use Rattle.relaxation.specs.Gains.{AdmitsGains, SatisfiesGains};
-    ghost use Rattle.relaxation.specs.Parents.{ReachesUp, parent_of, value_of};
-    ghost use Rattle.relaxation.specs.Relaxing.{HasEntries, HasRoom, IsFarUp, IsRelaxed};
+    ghost use Rattle.relaxation.specs.Parents.{ReachesUp, value_of};
+    ghost use Rattle.relaxation.specs.Relaxing.{IsFarUp, IsFromZero, IsRelaxed};
     ghost use Rattle.relaxation.specs.Rises.{AreRaised};
     ghost use Rattle.relaxation.specs.Sweeps.{IsSweep};
 
-    /// Values of 0 for so many registers, none of which has a parent.
-    ///
-    /// # Errors
-    ///
-    /// There is no memory for the lists, 20 bytes for each register.
-    pub fn new(alloc: Global, registers: usize) -> Result<Relaxation, NoMemory>
-        ensures values { IfOk result (λ relaxation.
-            relaxation.values.items ≡ replicate registers (pos 0)) }
-        ensures parents { IfOk result (λ relaxation. length relaxation.parents.items ≡ registers) }
-    {
-        let values = vec![in alloc; 0i128; registers]?;
-        let parents = vec![in alloc; 0u32; registers]?;
-        Ok(Relaxation::from_zero(values, parents))
-    }
-
     /// Values of 0 that keep no parents, in a list that may hold any. It takes no memory.
-    pub fn without_parents(values: Vec<i128>) -> Relaxation
-        ensures values { result.values.items ≡ replicate (length values.items) (pos 0) }
-        ensures parents { result.parents.items ≡ [] }
+    pub fn without_parents(constraints: &'a [Constraint], values: Vec<i128>) -> Relaxation<'a>
+        requires { AreSmallConstraints (length values.items) constraints.now }
+        ensures { IsFromZero constraints.now (length values.items) result }
     {
         let parents = Vec::new(*values.allocator());
-        Relaxation::from_zero(values, parents)
+        Relaxation::from_zero(constraints, values, parents)
     }
 
     /// Values of 0 and no parents, in lists that may hold any. It takes no memory.
-    pub fn from_zero(values: Vec<i128>, parents: Vec<u32>) -> Relaxation
-        ensures values { result.values.items ≡ replicate (length values.items) (pos 0) }
+    pub fn from_zero(
+        constraints: &'a [Constraint],
+        values: Vec<i128>,
+        parents: Vec<u32>,
+    ) -> Relaxation<'a>
+        requires { AreSmallConstraints (length values.items) constraints.now }
+        ensures zero { IsFromZero constraints.now (length values.items) result }
         ensures parents { length result.parents.items ≡ length parents.items }
     {
-        let mut relaxation = Relaxation { values, parents };
-        relaxation.values.fill(0);
-        relaxation.forget_parents();
-        relaxation
-    }
-
-    /// Forgets all parents. It takes no memory.
-    pub fn forget_parents(&mut self)
-        ensures values { self.new.values.items ≡ self.old.values.items }
-        ensures parents { length self.new.parents.items ≡ length self.old.parents.items }
-        ensures none { (constraints : List Constraint) (register : ℕ) → length constraints
-            ≤ 2097152 → parent_of constraints self.new.parents.items register ≡ None }
-    {
-        self.parents.fill(NO_PARENT);
+        let mut values = values;
+        let mut parents = parents;
+        values.fill(0);
+        parents.fill(NO_PARENT);
+        Relaxation {
+            constraints,
+            values,
+            parents,
+        }
     }
 
     /// Brings the values from the scale of the last gains to that of the next, rounded towards 0
@@ -82,6 +67,7 @@ impl Relaxation {
         ensures values { length self.new.values.items ≡ length self.old.values.items }
         ensures parents { self.new.parents.items ≡ self.old.parents.items }
         ensures small { All (IsBelow (2 ^ 88)) self.new.values.items }
+        ensures constraints { self.new.constraints.now ≡ self.old.constraints.now }
     {
         for register in 0..self.values.len() {
             let value = self.values[register];
@@ -92,22 +78,24 @@ impl Relaxation {
     /// Sweeps over the constraints, forwards and backwards by turns, until a sweep changes nothing
     /// or as many parents as there are registers stand above the register that it changed last. The
     /// register at their top is answered; where some values satisfy the constraints there is none.
-    /// It makes at most a sweep for each register, and takes no memory.
-    pub fn settle(&mut self, constraints: &[Constraint], gains: Gains) -> Option<u32>
-        requires room { HasRoom constraints.now self.old }
-        requires none { (register : ℕ)
-            → parent_of constraints.now self.old.parents.items register ≡ None }
+    /// Parents of before are forgotten. It makes at most a sweep for each register, and takes no
+    /// memory.
+    pub fn settle(&mut self, gains: Gains) -> Option<u32>
+        requires parents { length self.old.parents.items ≡ length self.old.values.items }
+        requires small { All (IsBelow (2 ^ 94)) self.old.values.items }
         ensures settled { MatchOption result
-            (SatisfiesGains constraints.now gains 1 (value_of self.new.values.items))
-            (IsFarUp constraints.now gains self.new) }
-        ensures admitted { AdmitsGains constraints.now gains → result ≡ None }
-        ensures raised { AreRaised constraints.now gains self.old.values.items
+            (SatisfiesGains self.old.constraints.now gains 1 (value_of self.new.values.items))
+            (IsFarUp self.old.constraints.now gains self.new) }
+        ensures admitted { AdmitsGains self.old.constraints.now gains → result ≡ None }
+        ensures raised { AreRaised self.old.constraints.now gains self.old.values.items
             self.new.values.items }
         ensures parents { length self.new.parents.items ≡ length self.old.parents.items }
+        ensures constraints { self.new.constraints.now ≡ self.old.constraints.now }
     {
+        self.parents.fill(NO_PARENT);
         let mut sweeps = 0;
-        while let Some(changed) = self.sweep(constraints, gains, sweeps) {
-            if let Some(register) = self.climb(constraints, changed) {
+        while let Some(changed) = self.sweep(gains, sweeps) {
+            if let Some(register) = self.climb(changed) {
                 return Some(register);
             }
             sweeps += 1;
@@ -118,83 +106,62 @@ impl Relaxation {
     /// Sweeps over constraints that some values satisfy, forwards and backwards by turns, until a
     /// sweep changes nothing. It needs no parents, makes at most a sweep for each register, and
     /// takes no memory.
-    pub fn satisfy(&mut self, constraints: &[Constraint], gains: Gains)
-        requires constraints { AreSmallConstraints (length self.old.values.items) constraints.now }
+    pub fn satisfy(&mut self, gains: Gains)
         requires small { All (IsBelow (2 ^ 94)) self.old.values.items }
-        requires admitted { AdmitsGains constraints.now gains }
-        ensures satisfied { SatisfiesGains constraints.now gains 1
+        requires admitted { AdmitsGains self.old.constraints.now gains }
+        ensures satisfied { SatisfiesGains self.old.constraints.now gains 1
             (value_of self.new.values.items) }
-        ensures raised { AreRaised constraints.now gains self.old.values.items
+        ensures raised { AreRaised self.old.constraints.now gains self.old.values.items
             self.new.values.items }
     {
         let mut before = 0;
-        while self.sweep(constraints, gains, before).is_some() {
+        while self.sweep(gains, before).is_some() {
             before += 1;
         }
     }
 
-    /// The parent of a register, if it has one.
-    pub(crate) fn parent<'a>(
-        &self,
-        constraints: &'a [Constraint],
-        register: u32,
-    ) -> Option<&'a Constraint>
-        requires entries { HasEntries constraints.now self.now }
-        requires register { register < length self.now.parents.items }
-        ensures small { IfSome result (λ parent. IsBelow (10 ^ 11) parent.now.weight) }
-        ensures within { IfSome result (λ parent. parent.now.tail < length self.now.parents.items) }
-    {
-        constraints.get(self.parents[register as usize] as usize)
-    }
-
     /// The register to which as many steps up the parents lead as there are registers, if there are
     /// so many parents. It takes no memory.
-    pub fn climb(&self, constraints: &[Constraint], from: u32) -> Option<u32>
-        requires entries { HasEntries constraints.now self.now }
+    pub fn climb(&self, from: u32) -> Option<u32>
+        requires parents { length self.now.parents.items ≡ length self.now.values.items }
         requires from { from < length self.now.values.items }
         ensures reaches { MatchOption result
-            ((to : ℕ) → ReachesUp constraints.now self.now.parents.items from to → ⊥)
-            (ReachesUp constraints.now self.now.parents.items from) }
+            ((to : ℕ) → ReachesUp self.now.constraints.now self.now.parents.items from to → ⊥)
+            (ReachesUp self.now.constraints.now self.now.parents.items from) }
         ensures within { IfSome result (λ register. register < length self.now.values.items) }
     {
         let mut register = from;
         for _step in 0..self.parents.len() {
             let parent = self.parents[register as usize];
-            register = constraints.get(parent as usize)?.tail;
+            register = self.constraints.get(parent as usize)?.tail;
         }
         Some(register)
     }
 
     /// One sweep, forwards where the number of sweeps before it is even. The register that changed
     /// last is answered. It takes no memory.
-    pub fn sweep(&mut self, constraints: &[Constraint], gains: Gains, before: usize) -> Option<u32>
-        requires constraints { AreSmallConstraints (length self.old.values.items) constraints.now }
-        requires small { All (IsBelow (2 ^ 114)) self.old.values.items }
-        ensures { IsSweep constraints.now gains self.old result self.new }
+    pub fn sweep(&mut self, gains: Gains, before: usize) -> Option<u32>
+        requires { All (IsBelow (2 ^ 114)) self.old.values.items }
+        ensures { IsSweep self.old.constraints.now gains self.old result self.new }
     {
         let forwards = before % 2 == 0;
+        let places = self.constraints.len();
         let mut changed = None;
-        for turn in 0..constraints.len() {
-            let place = place_at(turn, constraints.len(), forwards);
-            changed = self.relax(constraints, place, gains).or(changed);
+        for turn in 0..places {
+            let place = place_at(turn, places, forwards);
+            changed = self.relax(place, gains).or(changed);
         }
         changed
     }
 
     /// Raises the head of a constraint to what the constraint gives it, if that is more. The head
     /// is answered where it changed.
-    pub(crate) fn relax(
-        &mut self,
-        constraints: &[Constraint],
-        place: usize,
-        gains: Gains,
-    ) -> Option<u32>
-        requires constraints { AreSmallConstraints (length self.old.values.items) constraints.now }
-        requires place { place < length constraints.now }
+    pub(crate) fn relax(&mut self, place: usize, gains: Gains) -> Option<u32>
+        requires place { place < length self.old.constraints.now }
         requires small { All (IsBelow (2 ^ 115)) self.old.values.items }
-        ensures { IsRelaxed constraints.now gains place self.old result self.new }
+        ensures { IsRelaxed self.old.constraints.now gains place self.old result self.new }
     {
-        let constraint = &constraints[place];
+        let constraint = &self.constraints[place];
         let offer = self.values[constraint.tail as usize] + gains.gain(constraint);
         let head = constraint.head;
         if offer <= self.values[head as usize] {
@@ -209,6 +176,7 @@ impl Relaxation {
     fn keep_parent(&mut self, register: u32, place: u32)
         ensures values { self.new.values.items ≡ self.old.values.items }
         ensures parents { self.new.parents.items ≡ slice_set self.old.parents.items register place }
+        ensures constraints { self.new.constraints.now ≡ self.old.constraints.now }
     {
         if let Some(parent) = self.parents.get_mut(register as usize) {
             *parent = place;

@@ -1,6 +1,5 @@
-ghost use Rattle.cts_model.specs.timing.Constraints.{AreSmallConstraints};
-
 use crate::gains::Gains;
+use crate::relaxation::Relaxation;
 use crate::strong::{Strong, greatest_gain};
 use crate::tails::ByTail;
 use cts_base::NoMemory;
@@ -16,7 +15,7 @@ const TIMES: i128 = 2;
 /// Whose turn it is to raise others: the registers that wait to hand their values on, first in,
 /// first out, each once, with the constraints that lead from each.
 #[derive(Drop)]
-pub struct Turns {
+pub(crate) struct Turns {
     // The constraints that are linked.
     tails: ByTail,
     // Which these are, where not all are.
@@ -41,14 +40,13 @@ impl Turns {
     /// # Errors
     ///
     /// There is no memory for the lists, 8 bytes for each register and 4 for each constraint.
-    pub fn new(
+    pub(crate) fn new(
         alloc: Global,
-        registers: usize,
-        constraints: &[Constraint],
+        relaxation: &Relaxation<'_>,
         gains: Gains,
-    ) -> Result<Turns, NoMemory>
-        requires { AreSmallConstraints registers constraints.now }
-    {
+    ) -> Result<Turns, NoMemory> {
+        let registers = relaxation.values.len();
+        let constraints = relaxation.constraints;
         let tails = ByTail {
             last: vec![in alloc; 0u32; registers]?,
             before: vec![in alloc; 0u32; constraints.len()]?,
@@ -70,20 +68,15 @@ impl Turns {
 
     /// Whether no register waits, and no constraint that isn't linked raises one. Where values that
     /// are from 0 on lie too far apart for that, more are linked, and each register waits.
-    pub fn are_through(
-        &mut self,
-        constraints: &[Constraint],
-        gains: Gains,
-        values: &[i128],
-    ) -> bool {
+    pub(crate) fn are_through(&mut self, relaxation: &Relaxation<'_>, gains: Gains) -> bool {
         if self.waiting > 0 {
             return false;
         }
-        let greatest = values.iter().copied().max().unwrap_or(0);
+        let greatest = relaxation.values.iter().copied().max().unwrap_or(0);
         if self.strong.is_none() || greatest / gains.scale <= self.spread {
             return true;
         }
-        self.link_within(constraints, gains, greatest.wrapping_mul(2));
+        self.link_within(relaxation.constraints, gains, greatest.wrapping_mul(2));
         false
     }
 
@@ -127,14 +120,14 @@ impl Turns {
     }
 
     /// Lets each register wait. It takes no memory.
-    pub fn let_all_wait(&mut self) {
+    pub(crate) fn let_all_wait(&mut self) {
         for register in 0..self.registers {
             self.let_wait(register);
         }
     }
 
     /// Whether each register waits.
-    pub fn do_all_wait(&self) -> bool {
+    pub(crate) fn do_all_wait(&self) -> bool {
         self.waiting == self.registers
     }
 
@@ -166,6 +159,13 @@ impl Turns {
         }
         self.last = register;
         self.waiting = self.waiting.wrapping_add(1);
+    }
+
+    /// Lets a register that was raised wait, if one was.
+    pub(crate) fn let_raised_wait(&mut self, raised: Option<u32>) {
+        if let Some(register) = raised {
+            self.let_wait(register);
+        }
     }
 
     /// The register that has waited longest. It waits no more.

@@ -3,3 +3,4 @@ pub mod SparingSchedules
 pub mod RatioMargins
 pub mod Sharing
 pub mod Answers
+pub mod Vocabulary

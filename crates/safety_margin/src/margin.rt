@@ -1,8 +1,5 @@
 ghost use Rattle.std.specs.Prelude.{◌↔◌, IfOk};
-ghost use Rattle.cts_model.specs.timing.Constraints.{AreSmallConstraints};
-ghost use Rattle.safety_margin.specs.Answers.{HasSmallSparing, IsMarginOf, IsUnbounded};
-ghost use Rattle.safety_margin.specs.Margins.{HasNoCycle};
-ghost use Rattle.cts_model.specs.timing.Schedules.{IsMarginPeriod};
+ghost use Rattle.safety_margin.specs.Vocabulary.{AreSmallConstraints, HasNoCycle, HasSmallSparing, IsMarginOf, IsMarginPeriod, IsUnbounded};
 
 use crate::ratio::{below_all, margin_at, measure_at};
 use crate::sparing::sparing_schedule;

@@ -1,6 +1,4 @@
-ghost use Rattle.cts_model.specs.timing.Schedules.{IsMarginPeriod};
-ghost use Rattle.safety_margin.specs.RatioMargins.{IsBelowAll, IsMarginAt, IsMeasureAt};
-ghost use Rattle.critical_cycle.specs.RatioSizes.{IsSmallRatio};
+ghost use Rattle.safety_margin.specs.Vocabulary.{IsBelowAll, IsMarginAt, IsMarginPeriod, IsMeasureAt, IsSmallRatio};
 
 use crate::sparing::product;
 use critical_cycle::Measure;

@@ -1,10 +1,5 @@
 ghost use Rattle.std.specs.Prelude.{◌≡◌, ◌^◌, ◌*ℤ◌, IfOk};
-ghost use Rattle.cts_model.specs.timing.Constraints.{AreSmallConstraints};
-ghost use Rattle.cts_model.specs.placement.Points.{IsBelow};
-ghost use Rattle.safety_margin.specs.Margins.{Spares};
-ghost use Rattle.cts_model.specs.timing.Schedules.{IsMarginPeriod};
-ghost use Rattle.safety_margin.specs.Sharing.{AreGainsAt, CanSpare, IsShare, IsSmallMargin};
-ghost use Rattle.safety_margin.specs.SparingSchedules.{IsSmallSparing, IsSparingSchedule};
+ghost use Rattle.safety_margin.specs.Vocabulary.{AreGainsAt, AreSmallConstraints, CanSpare, IsBelow, IsMarginPeriod, IsShare, IsSmallMargin, IsSmallSparing, IsSparingSchedule, Spares};
 
 use cts_base::{Fraction, Listed, NoMemory};
 use cts_model::{Constraint, Schedule};

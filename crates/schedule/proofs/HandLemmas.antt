@@ -1,23 +1,23 @@
 -- What is looked at from each register that is taken.
-use Rattle.schedule.proofs.Vocabulary.{◌≡◌, ◌<◌, ◌≤◌, ◌+◌, ◌∙◌, ℕ, zero, suc, ℤ, pos, negsuc, ◌≤ℤ◌, ◌<ℤ◌, false, List, Contains, length, get_or, inl, inr, subst, sym, refl, arith, true≢false, ap, cases_eq, cases_lt, ints, get_or_default, get_or_read, Fraction, Constraint, Reach, Tight, arrival_of, IsTight, IsTightLead, depth_of, lead_at, IsLastBefore, IsAdded, IsGiven, IsGrown, IsHanded, IsHandedBy, IsReachKept, IsReached, IsReaching, nowhere}
+use Rattle.schedule.proofs.Vocabulary.{Arrivals, ◌≡◌, ◌<◌, ◌≤◌, ◌+◌, ◌∙◌, ℕ, zero, suc, ℤ, pos, negsuc, ◌≤ℤ◌, ◌<ℤ◌, false, Contains, length, get_or, inl, inr, subst, sym, refl, arith, true≢false, ap, cases_eq, cases_lt, ints, get_or_default, get_or_read, Constraint, Reach, Tight, arrival_of, IsTight, IsTightLead, depth_of, lead_at, IsLastBefore, IsAdded, IsGrown, IsHanded, IsHandedBy, IsReachKept, IsReached, IsReaching, nowhere}
 use Rattle.std.proofs.lemmas.List.Elements.{Contains-get_or}
 use Rattle.schedule.proofs.ReachLemmas.{IsReachKept-added, IsReaching-added, flag_here}
 
 -- the constraints that lead from the register are looked at, up to the mark's
-pub record IsHanding (constraints : List Constraint) (period : Fraction) (at : List ℤ)
+pub record IsHanding (arrivals : Arrivals)
     (register mark : ℕ) (old new : Reach) : Type 0 where
-  pub handed : IsHanded constraints period at register mark old new
-  pub next : IsLastBefore constraints mark register mark
-  pub bound : mark ≤ length constraints
+  pub handed : IsHanded arrivals register mark old new
+  pub next : IsLastBefore arrivals.constraints.now mark register mark
+  pub bound : mark ≤ length arrivals.constraints.now
 
 -- so many in the queue are taken
-pub record IsTaking (constraints : List Constraint) (period : Fraction) (at : List ℤ)
+pub record IsTaking (arrivals : Arrivals)
     (taken : ℕ) (reach : Reach) : Type 0 where
-  pub reaching : IsReaching constraints period at (length at) reach
+  pub reaching : IsReaching arrivals (length arrivals.at.now) reach
   pub within : taken ≤ length reach.queue.items
   pub handed : (turn place : ℕ) (default : Constraint)
-      → turn < taken → place < length constraints → (get_or constraints place default).tail
-      ≡ get_or reach.queue.items turn 0 → IsHandedBy constraints period at reach place
+      → turn < taken → place < length arrivals.constraints.now → (get_or arrivals.constraints.now place default).tail
+      ≡ get_or reach.queue.items turn 0 → IsHandedBy arrivals reach place
 
 -- nothing changed
 IsReachKept-same : (reach : Reach) → IsReachKept reach reach
@@ -43,27 +43,27 @@ above_zero (pos zero) from late = absurd (late refl)
 above_zero (pos (suc n)) from late = omega (arith, ints)
 above_zero (negsuc n) from late = absurd (omega (arith, ints))
 
-module _ {constraints : List Constraint} {period : Fraction} {at : List ℤ} {old : Reach}
-    (given : IsGiven constraints period at) (reaching : IsReaching
-    constraints period at (length at) old) (place : ℕ) (within : place < length constraints) where
+module _ {arrivals : Arrivals} {old : Reach}
+    (reaching : IsReaching
+    arrivals (length arrivals.at.now) old) (place : ℕ) (within : place < length arrivals.constraints.now) where
   -- the constraint
   abbrev it : Constraint
-  it = get_or constraints place nowhere
+  it = get_or arrivals.constraints.now place nowhere
 
   -- its head is a register
-  head : it.head < length at
-  head = (given.small.each place nowhere within).head
+  head : it.head < length arrivals.at.now
+  head = (arrivals.given.small.each place nowhere within).head
 
   module _ (tail : IsReached old it.tail)
-      (first : get_or old.reached.items it.head false ≡ false) (tight : IsTight period at it)
+      (first : get_or old.reached.items it.head false ≡ false) (tight : IsTight arrivals.period arrivals.at.now it)
       (depth : ℕ) (depth_is : depth ≡ 1 + depth_of (lead_at old.leads.items it.tail)) where
     -- it leads to its head
-    led : IsTightLead (Contains constraints) period at old.leads.items it.head depth it
+    led : IsTightLead (Contains arrivals.constraints.now) arrivals.period arrivals.at.now old.leads.items it.head depth it
     led = record {
-      late = above_zero (arrival_of at it.head) (given.from_zero it.head head)
+      late = above_zero (arrival_of arrivals.at.now it.head) (arrivals.given.from_zero it.head head)
           (λ zero. true≢false (sym (reaching.zeros it.head head zero) ∙ first));
       led = record {
-        given = Contains-get_or constraints place nowhere within;
+        given = Contains-get_or arrivals.constraints.now place nowhere within;
         head = refl;
         tight = tight;
         depth_is = depth_is;
@@ -72,24 +72,24 @@ module _ {constraints : List Constraint} {period : Fraction} {at : List ℤ} {ol
 
     -- a tight constraint from a register that is reached gives its head a lead
     pub IsGrown-offered : {new : Reach} → IsAdded it.head (Tight depth it) old new
-        → IsGrown constraints period at place old new
+        → IsGrown arrivals place old new
     IsGrown-offered {new} added = record {
       keeps = IsReachKept-added reaching added head first;
       reaching = IsReaching-added reaching added head first led tail (omega (
         arith,
         depth_is,
         reaching.low it.tail,
-      )) (length at) head (omega arith) (λ other early. inl early);
+      )) (length arrivals.at.now) head (omega arith) (λ other early. inl early);
       handed = λ default is.
           subst (λ (c : Constraint). IsReached new c.head) (get_or_default
-          constraints place nowhere default within) (flag_here reaching added head first);
+          arrivals.constraints.now place nowhere default within) (flag_here reaching added head first);
     }
 
-module _ {constraints : List Constraint} {period : Fraction} {at : List ℤ}
+module _ {arrivals : Arrivals}
     {register mark : ℕ} {old : Reach} where
   -- at first all constraints are left
-  pub IsHanding-none : IsReaching constraints period at (length at) old → IsLastBefore constraints
-      (length constraints) register mark → IsHanding constraints period at register mark old old
+  pub IsHanding-none : IsReaching arrivals (length arrivals.at.now) old → IsLastBefore arrivals.constraints.now
+      (length arrivals.constraints.now) register mark → IsHanding arrivals register mark old old
   IsHanding-none reaching last = record {
     handed = record {
       keeps = IsReachKept-same old;
@@ -105,10 +105,10 @@ module _ {constraints : List Constraint} {period : Fraction} {at : List ℤ}
   }
 
   -- the mark's constraint is looked at
-  pub IsHanding-more : {now new : Reach} → IsHanding constraints period at register mark old now
-      → (place : ℕ) → place + 1 ≡ mark → IsGrown constraints period at place now new → (before : ℕ)
-      → IsLastBefore constraints place (get_or constraints place nowhere).tail before
-      → IsHanding constraints period at register before old new
+  pub IsHanding-more : {now new : Reach} → IsHanding arrivals register mark old now
+      → (place : ℕ) → place + 1 ≡ mark → IsGrown arrivals place now new → (before : ℕ)
+      → IsLastBefore arrivals.constraints.now place (get_or arrivals.constraints.now place nowhere).tail before
+      → IsHanding arrivals register before old new
   IsHanding-more {now} {new} handing place place_is grown before last = record {
     handed = record {
       keeps = IsReachKept-then handing.handed.keeps grown.keeps;
@@ -124,30 +124,30 @@ module _ {constraints : List Constraint} {period : Fraction} {at : List ℤ}
   }
     where
       -- its tail is the register
-      tail : (get_or constraints place nowhere).tail ≡ register
+      tail : (get_or arrivals.constraints.now place nowhere).tail ≡ register
       tail = handing.next.here place nowhere place_is
 
       -- what is looked at now
-      handed : (other : ℕ) (default : Constraint) → before ≤ other → other < length constraints
-          → (get_or constraints other default).tail ≡ register
-          → IsHandedBy constraints period at new other
+      handed : (other : ℕ) (default : Constraint) → before ≤ other → other < length arrivals.constraints.now
+          → (get_or arrivals.constraints.now other default).tail ≡ register
+          → IsHandedBy arrivals new other
       handed other default past within is = elim (cases_lt place other) [
-        | inl later ↦ λ any tight. grown.keeps.kept (get_or constraints other any).head
+        | inl later ↦ λ any tight. grown.keeps.kept (get_or arrivals.constraints.now other any).head
             (handing.handed.handed other default (omega (arith, place_is, later)) within is any
             tight)
         | inr not_later ↦ elim (cases_eq other place) [
-          | inl same ↦ subst (IsHandedBy constraints period at new) (sym same) grown.handed
+          | inl same ↦ subst (IsHandedBy arrivals new) (sym same) grown.handed
           | inr apart ↦ absurd (last.none other default past
               (omega (arith, not_later, apart)) (is ∙ sym tail))
         ]
       ]
 
-module _ {constraints : List Constraint} {period : Fraction} {at : List ℤ} {taken : ℕ}
+module _ {arrivals : Arrivals} {taken : ℕ}
     {now : Reach} where
   -- the next register of the queue is taken
-  pub IsTaking-more : {new : Reach} → IsTaking constraints period at taken now → taken < length
+  pub IsTaking-more : {new : Reach} → IsTaking arrivals taken now → taken < length
       now.queue.items → (register : ℕ) → register ≡ get_or now.queue.items taken register → IsHanded
-      constraints period at register 0 now new → IsTaking constraints period at (taken + 1) new
+      arrivals register 0 now new → IsTaking arrivals (taken + 1) new
   IsTaking-more {new} taking below register read more = record {
     reaching = more.reaching;
     within = omega (arith, below, more.keeps.longer);
@@ -156,15 +156,15 @@ module _ {constraints : List Constraint} {period : Fraction} {at : List ℤ} {ta
     where
       -- what is handed on by those that are taken
       handed : (turn place : ℕ) (default : Constraint)
-          → turn < taken + 1 → place < length constraints → (get_or constraints place default).tail
-          ≡ get_or new.queue.items turn 0 → IsHandedBy constraints period at new place
+          → turn < taken + 1 → place < length arrivals.constraints.now → (get_or arrivals.constraints.now place default).tail
+          ≡ get_or new.queue.items turn 0 → IsHandedBy arrivals new place
       handed turn place default early within is = elim (cases_eq turn taken) [
         | inl same ↦ more.handed place default (omega arith)
             within (is ∙ (ap (λ t. get_or new.queue.items t 0) same ∙ (more.keeps.same taken below
             ∙ sym (get_or_read now.queue.items taken register below read 0))))
         | inr apart ↦
             let before : turn < taken = omega (arith, early, apart) in
-            λ any tight. more.keeps.kept (get_or constraints place any).head
+            λ any tight. more.keeps.kept (get_or arrivals.constraints.now place any).head
             (taking.handed turn place default before within
             (is ∙ more.keeps.same turn (omega (arith, before, below))) any tight)
       ]

@@ -1,6 +1,6 @@
 -- Where tight constraints reach no further, the least arrivals are all reached: else those that
 -- aren't could all be lowered.
-use Rattle.schedule.proofs.Vocabulary.{◌≡◌, ◌<◌, ◌≤◌, ◌*◌, ℕ, zero, suc, ℤ, pos, negsuc, ◌+ℤ◌, ◌-ℤ◌, ◌*ℤ◌, ◌≤ℤ◌, Bool, true, false, cond, List, Contains, length, get_or, subst, sym, refl, arith, true≢false, nat_abs, ints, Fraction, Constraint, Satisfies, count_of, Reach, arrival_of, AreFromZero, IsLeastScheduleOf, EachLead, depth_of, lead_at, IsReached, IsWhole}
+use Rattle.schedule.proofs.Vocabulary.{Arrivals, ◌≡◌, ◌<◌, ◌≤◌, ◌*◌, ℕ, zero, suc, ℤ, pos, negsuc, ◌+ℤ◌, ◌-ℤ◌, ◌*ℤ◌, ◌≤ℤ◌, Bool, true, false, cond, Contains, length, get_or, subst, sym, refl, arith, true≢false, nat_abs, ints, Constraint, Satisfies, count_of, Reach, arrival_of, AreFromZero, IsLeastScheduleOf, EachLead, depth_of, lead_at, IsReached, IsWhole}
 use Rattle.schedule.proofs.BoundLemmas.{once_is, size_same}
 
 -- a number from 0 on that is 0 only where the flag is set, lowered where it isn't
@@ -37,51 +37,51 @@ flag_set false z low = absurd (omega (arith, ints, is_once))
     is_once : pos 1 *ℤ z ≡ z
     is_once = omega (arith, ints)
 
-module _ {constraints : List Constraint} {period : Fraction} {at : List ℤ} {reach : Reach}
-    (least : IsLeastScheduleOf constraints period.num (nat_abs period.den) at)
-    (whole : IsWhole constraints period at reach) where
+module _ {arrivals : Arrivals} {reach : Reach} (whole : IsWhole arrivals reach)
+    (least : IsLeastScheduleOf arrivals.constraints.now arrivals.period.num
+    (nat_abs arrivals.period.den) arrivals.at.now) where
   -- whether a register is reached
   abbrev flag : ℕ → Bool
   flag register = get_or reach.reached.items register false
 
   -- the arrivals, lowered by 1 where they aren't reached
   abbrev lowered : ℕ → ℤ
-  lowered register = arrival_of at register -ℤ pos (cond (flag register) 0 1)
+  lowered register = arrival_of arrivals.at.now register -ℤ pos (cond (flag register) 0 1)
 
   -- they are from 0 on
-  all_from_zero : AreFromZero (length at) lowered
-  all_from_zero register within = lowered_from_zero (flag register) (arrival_of at register)
+  all_from_zero : AreFromZero (length arrivals.at.now) lowered
+  all_from_zero register within = lowered_from_zero (flag register) (arrival_of arrivals.at.now register)
       (least.from_zero register within) (whole.reaching.zeros register within)
 
   -- the denominator is its size
-  den_is : pos (nat_abs period.den) ≡ period.den
-  den_is = size_same period.den (omega (arith, ints, period.lowest.some_den))
+  den_is : pos (nat_abs arrivals.period.den) ≡ arrivals.period.den
+  den_is = size_same arrivals.period.den (omega (arith, ints, arrivals.period.lowest.some_den))
 
   -- they satisfy the constraints
-  all_met : Satisfies constraints (nat_abs period.den) period.num lowered
+  all_met : Satisfies arrivals.constraints.now (nat_abs arrivals.period.den) arrivals.period.num lowered
   all_met place default within =
-      let it : Constraint = get_or constraints place default in
-      lowered_met (flag it.tail) (flag it.head) (arrival_of at it.tail) (arrival_of at it.head)
-      (pos (nat_abs period.den) *ℤ it.weight) (period.num *ℤ pos (count_of it))
+      let it : Constraint = get_or arrivals.constraints.now place default in
+      lowered_met (flag it.tail) (flag it.head) (arrival_of arrivals.at.now it.tail) (arrival_of arrivals.at.now it.head)
+      (pos (nat_abs arrivals.period.den) *ℤ it.weight) (arrivals.period.num *ℤ pos (count_of it))
       (least.satisfies place default within) (λ reached tight. whole.handed place
-      default within reached default (subst (λ z. arrival_of at it.head -ℤ arrival_of at it.tail
-      ≡ (z *ℤ it.weight) -ℤ (period.num *ℤ pos (count_of it))) den_is tight))
+      default within reached default (subst (λ z. arrival_of arrivals.at.now it.head -ℤ arrival_of arrivals.at.now it.tail
+      ≡ (z *ℤ it.weight) -ℤ (arrivals.period.num *ℤ pos (count_of it))) den_is tight))
 
   -- at the same scale, taken once
-  all_met_once : Satisfies constraints (nat_abs period.den * 1) (period.num *ℤ pos 1) lowered
-  all_met_once = subst (λ n. Satisfies constraints n (period.num *ℤ pos 1) lowered)
-      (omega arith) (subst (λ (z : ℤ). Satisfies constraints (nat_abs period.den) z lowered)
-      (once_is period.num) all_met)
+  all_met_once : Satisfies arrivals.constraints.now (nat_abs arrivals.period.den * 1) (arrivals.period.num *ℤ pos 1) lowered
+  all_met_once = subst (λ n. Satisfies arrivals.constraints.now n (arrivals.period.num *ℤ pos 1) lowered)
+      (omega arith) (subst (λ (z : ℤ). Satisfies arrivals.constraints.now (nat_abs arrivals.period.den) z lowered)
+      (once_is arrivals.period.num) all_met)
 
   -- so each is reached
-  all_reached : (register : ℕ) → register < length at → IsReached reach register
-  all_reached register within = flag_set (flag register) (arrival_of at register)
+  all_reached : (register : ℕ) → register < length arrivals.at.now → IsReached reach register
+  all_reached register within = flag_set (flag register) (arrival_of arrivals.at.now register)
       (least.least 1 lowered (omega arith) all_from_zero all_met_once register within)
 
   -- and has its lead
-  pub EachLead-whole : EachLead (Contains constraints) period at reach.leads.items
+  pub EachLead-whole : EachLead (Contains arrivals.constraints.now) arrivals.period arrivals.at.now reach.leads.items
   EachLead-whole register within = whole.reaching.led register (all_reached register within)
 
   -- which takes no more constraints than there are registers
-  pub low_depth : (register : ℕ) → depth_of (lead_at reach.leads.items register) ≤ length at
+  pub low_depth : (register : ℕ) → depth_of (lead_at reach.leads.items register) ≤ length arrivals.at.now
   low_depth register = omega (arith, whole.reaching.low register, whole.reaching.room)

@@ -1,13 +1,13 @@
 -- A register more is reached: what was known of those before it stands.
-use Rattle.schedule.proofs.Vocabulary.{◌≡◌, ◌≢◌, ◌<◌, ◌≤◌, ◌+◌, ◌∙◌, ◌⊎◌, ℕ, ℤ, Bool, true, false, if◌then◌else◌, List, [], ◌∷◌, Contains, length, get_or, inl, inr, subst, sym, ap, arith, true≢false, cases_eq, cases_lt, get_or-set_same, get_or-set_other, get_or_append_left, length-set, length-append, Fraction, Constraint, Zero, Tight, Reach, IsLead, depth_of, lead_at, IsAdded, IsFromReached, IsReachKept, IsReached, IsReaching, unreached}
+use Rattle.schedule.proofs.Vocabulary.{Arrivals, ◌≡◌, ◌≢◌, ◌<◌, ◌≤◌, ◌+◌, ◌∙◌, ◌⊎◌, ℕ, Bool, true, false, if◌then◌else◌, List, [], ◌∷◌, Contains, length, get_or, inl, inr, subst, sym, ap, arith, true≢false, cases_eq, cases_lt, get_or-set_same, get_or-set_other, get_or_append_left, length-set, length-append, Zero, Tight, Reach, IsLead, depth_of, lead_at, IsAdded, IsFromReached, IsReachKept, IsReached, IsReaching, unreached}
 use Rattle.std.proofs.lemmas.List.Sums.{sum_by-set}
 use Rattle.std.proofs.Math.Seq.{get_or-append_seam}
 use Rattle.cts_model.specs.declared.schedule.Lead.{Lead}
 
-module _ {constraints : List Constraint} {period : Fraction} {at : List ℤ} {looked : ℕ}
+module _ {arrivals : Arrivals} {looked : ℕ}
     {old new : Reach} {register : ℕ} {lead : Lead}
-    (reaching : IsReaching constraints period at looked old) (added : IsAdded register lead old new)
-    (within : register < length at) (first : get_or old.reached.items register false ≡ false) where
+    (reaching : IsReaching arrivals looked old) (added : IsAdded register lead old new)
+    (within : register < length arrivals.at.now) (first : get_or old.reached.items register false ≡ false) where
   -- the register is reached
   pub flag_here : IsReached new register
   flag_here = ap (λ (l : List Bool). get_or l register false) added.flags ∙ get_or-set_same
@@ -63,8 +63,8 @@ module _ {constraints : List Constraint} {period : Fraction} {at : List ℤ} {lo
   }
 
   -- a lead from what is reached stands
-  led_still : (other : ℕ) (it : Lead) → IsFromReached old it → IsLead (Contains constraints) period
-      at old.leads.items other it → IsLead (Contains constraints) period at new.leads.items other it
+  led_still : (other : ℕ) (it : Lead) → IsFromReached old it → IsLead (Contains arrivals.constraints.now) arrivals.period
+      arrivals.at.now old.leads.items other it → IsLead (Contains arrivals.constraints.now) arrivals.period arrivals.at.now new.leads.items other it
   led_still other Zero from led = led
   led_still other (Tight depth constraint) from led = record {
     late = led.late;
@@ -82,19 +82,19 @@ module _ {constraints : List Constraint} {period : Fraction} {at : List ℤ} {lo
   from_still Zero from = from
   from_still (Tight depth constraint) from = still constraint.tail from
 
-  module _ (led : IsLead (Contains constraints) period at old.leads.items register lead)
+  module _ (led : IsLead (Contains arrivals.constraints.now) arrivals.period arrivals.at.now old.leads.items register lead)
       (from : IsFromReached old lead) (low : depth_of lead ≤ length old.queue.items + 1) where
     -- each that is reached has its lead
     led_now : (other : ℕ) → IsReached new other → IsLead
-        (Contains constraints) period at new.leads.items other (lead_at new.leads.items other)
+        (Contains arrivals.constraints.now) arrivals.period arrivals.at.now new.leads.items other (lead_at new.leads.items other)
     led_now other reached = elim (cases_eq other register) [
       | inl same ↦
-          subst (λ r. IsLead (Contains constraints) period at new.leads.items
-          r (lead_at new.leads.items r)) (sym same) (subst (IsLead (Contains constraints)
-          period at new.leads.items register) (sym lead_here) (led_still register lead from led))
+          subst (λ r. IsLead (Contains arrivals.constraints.now) arrivals.period arrivals.at.now new.leads.items
+          r (lead_at new.leads.items r)) (sym same) (subst (IsLead (Contains arrivals.constraints.now)
+          arrivals.period arrivals.at.now new.leads.items register) (sym lead_here) (led_still register lead from led))
       | inr apart ↦
           let before = sym (flag_there other apart) ∙ reached in
-          subst (IsLead (Contains constraints) period at new.leads.items other)
+          subst (IsLead (Contains arrivals.constraints.now) arrivals.period arrivals.at.now new.leads.items other)
           (sym (lead_there other apart)) (led_still other
           (lead_at old.leads.items other) (reaching.from other before) (reaching.led other before))
     ]
@@ -157,7 +157,7 @@ module _ {constraints : List Constraint} {period : Fraction} {at : List ℤ} {lo
 
     -- the register is reached by its lead, where it is the next that is looked at or one before
     pub IsReaching-added : (next : ℕ) → register < next → looked ≤ next → ((other : ℕ) → other
-        < next → (other < looked) ⊎ (other ≡ register)) → IsReaching constraints period at next new
+        < next → (other < looked) ⊎ (other ≡ register)) → IsReaching arrivals next new
     IsReaching-added next below over split = record {
       flags = ap length added.flags ∙ (length-set old.reached.items register true ∙ reaching.flags);
       long = ap length added.leads ∙ (length-set old.leads.items register lead ∙ reaching.long);

@@ -19,7 +19,9 @@ pub use Rattle.relaxation.specs.Gains.{SatisfiesGains, gain_of, AdmitsGains}
 pub use Rattle.relaxation.specs.Tails.{IsLastBefore}
 pub use Rattle.relaxation.specs.declared.gains.Gains.{Gains}
 pub use Rattle.schedule.specs.Gains.{AreGainsOf, AreLeastBy, AreLeastArrivalsBy}
-pub use Rattle.schedule.specs.Reaching.{IsAdded, IsGiven, IsGrown, IsHanded, IsHandedBy, IsReachKept, IsReached, IsReaching, IsWhole, IsFromReached, unreached, IsSized}
+pub use Rattle.schedule.specs.Given.{IsGiven}
+pub use Rattle.schedule.specs.Reaching.{IsAdded, IsGrown, IsHanded, IsHandedBy, IsReachKept, IsReached, IsReaching, IsWhole, IsFromReached, unreached}
 pub use Rattle.schedule.specs.Rises.{IsRising, CanRaise}
 pub use Rattle.schedule.specs.Schedules.{AreWithinWeights, CanSchedule, IsLeastScheduleOf, IsAdmittedBy}
+pub use Rattle.schedule.specs.declared.arrivals.Arrivals.{Arrivals}
 pub use Rattle.schedule.specs.declared.reach.Reach.{Reach}

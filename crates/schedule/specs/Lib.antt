@@ -1,4 +1,6 @@
 pub mod Gains
 pub mod Schedules
 pub mod Rises
+pub mod Given
 pub mod Reaching
+pub mod Vocabulary

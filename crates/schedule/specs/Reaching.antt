@@ -1,25 +1,13 @@
 -- How far tight constraints reach from the registers at 0.
-use Rattle.std.specs.Prelude.{◌≡◌, ◌<◌, ◌≤◌, ◌+◌, ◌++◌, ◌∷◌, [], ℕ, ℤ, pos, Bool, true, false, if◌then◌else◌, List, Contains, length, slice_index, slice_index_or, slice_set}
+use Rattle.std.specs.Prelude.{◌≡◌, ◌<◌, ◌≤◌, ◌+◌, ◌++◌, ◌∷◌, [], ℕ, pos, Bool, true, false, if◌then◌else◌, List, Contains, length, slice_index, slice_index_or, slice_set}
 use Rattle.std.specs.List.{sum_by}
-use Rattle.cts_base.specs.declared.fraction.Fraction.{Fraction}
 use Rattle.cts_model.specs.declared.constraint.Constraint.{Constraint}
-use Rattle.cts_model.specs.timing.Constraints.{AreSmallConstraints}
 use Rattle.cts_model.specs.declared.schedule.Lead.{Lead}
 use Rattle.cts_model.specs.declared.schedule.Lead.TheVariants.{Zero, Tight}
+use Rattle.schedule.specs.declared.arrivals.Arrivals.{Arrivals}
 use Rattle.schedule.specs.declared.reach.Reach.{Reach}
-use Rattle.cts_model.specs.timing.Schedules.{arrival_of, AreFromZero, IsSmallPeriod}
+use Rattle.cts_model.specs.timing.Schedules.{arrival_of}
 use Rattle.cts_model.specs.timing.Leads.{IsLead, IsTight, depth_of, lead_at}
-
--- what is known of the constraints, the period and the arrivals
-pub record IsGiven (constraints : List Constraint) (period : Fraction) (at : List ℤ) : Type 0 where
-  pub small : AreSmallConstraints (length at) constraints
-  pub range : IsSmallPeriod period
-  pub from_zero : AreFromZero (length at) (arrival_of at)
-
--- there is a flag and a lead for each register
-pub record IsSized (registers : ℕ) (reach : Reach) : Type 0 where
-  pub flags : length reach.reached.items ≡ registers
-  pub leads : length reach.leads.items ≡ registers
 
 -- the register is reached
 abbrev pub IsReached : Reach → ℕ → Type 0
@@ -36,16 +24,16 @@ unreached = sum_by (λ reached. if reached then 0 else 1)
 
 -- those that are reached have their leads and stand in the queue; of those at 0, so many are looked
 -- at
-pub record IsReaching (constraints : List Constraint) (period : Fraction) (at : List ℤ)
+pub record IsReaching (arrivals : Arrivals)
     (looked : ℕ) (reach : Reach) : Type 0 where
-  pub flags : length reach.reached.items ≡ length at
-  pub long : length reach.leads.items ≡ length at
-  pub zeros : (register : ℕ) → register < looked → arrival_of at register ≡ pos 0
+  pub flags : length reach.reached.items ≡ length arrivals.at.now
+  pub long : length reach.leads.items ≡ length arrivals.at.now
+  pub zeros : (register : ℕ) → register < looked → arrival_of arrivals.at.now register ≡ pos 0
       → IsReached reach register
   pub fresh : (register : ℕ) → looked ≤ register
       → slice_index_or reach.reached.items register false ≡ false
   pub led : (register : ℕ) → IsReached reach register
-      → IsLead (Contains constraints) period at reach.leads.items register
+      → IsLead (Contains arrivals.constraints.now) arrivals.period arrivals.at.now reach.leads.items register
       (lead_at reach.leads.items register)
   pub from : (register : ℕ) → IsReached reach register
       → IsFromReached reach (lead_at reach.leads.items register)
@@ -55,7 +43,7 @@ pub record IsReaching (constraints : List Constraint) (period : Fraction) (at : 
       × (place < length reach.queue.items) × (slice_index reach.queue.items place ≡ register)
   pub known : (place : ℕ) → place < length reach.queue.items
       → IsReached reach (slice_index reach.queue.items place)
-  pub room : unreached reach.reached.items + length reach.queue.items ≡ length at
+  pub room : unreached reach.reached.items + length reach.queue.items ≡ length arrivals.at.now
 
 -- a register is given its lead
 pub record IsAdded (register : ℕ) (lead : Lead) (old new : Reach) : Type 0 where
@@ -71,31 +59,31 @@ pub record IsReachKept (old new : Reach) : Type 0 where
       → slice_index new.queue.items place ≡ slice_index old.queue.items place
 
 -- the constraint's head is reached, if it is tight
-abbrev pub IsHandedBy : List Constraint → Fraction → List ℤ → Reach → (place : ℕ) → Type 0
-IsHandedBy constraints period at reach place = (default : Constraint)
-    → IsTight period at (slice_index_or constraints place default)
-    → IsReached reach (slice_index_or constraints place default).head
+abbrev pub IsHandedBy : Arrivals → Reach → (place : ℕ) → Type 0
+IsHandedBy arrivals reach place = (default : Constraint)
+    → IsTight arrivals.period arrivals.at.now (slice_index_or arrivals.constraints.now place default)
+    → IsReached reach (slice_index_or arrivals.constraints.now place default).head
 
 -- a constraint is looked at
-pub record IsGrown (constraints : List Constraint) (period : Fraction) (at : List ℤ)
+pub record IsGrown (arrivals : Arrivals)
     (place : ℕ) (old new : Reach) : Type 0 where
   pub keeps : IsReachKept old new
-  pub reaching : IsReaching constraints period at (length at) new
-  pub handed : IsHandedBy constraints period at new place
+  pub reaching : IsReaching arrivals (length arrivals.at.now) new
+  pub handed : IsHandedBy arrivals new place
 
 -- the constraints from this place on that lead from the register are looked at
-pub record IsHanded (constraints : List Constraint) (period : Fraction) (at : List ℤ)
+pub record IsHanded (arrivals : Arrivals)
     (register start : ℕ) (old new : Reach) : Type 0 where
   pub keeps : IsReachKept old new
-  pub reaching : IsReaching constraints period at (length at) new
-  pub handed : (place : ℕ) (default : Constraint) → start ≤ place → place < length constraints
-      → (slice_index_or constraints place default).tail ≡ register
-      → IsHandedBy constraints period at new place
+  pub reaching : IsReaching arrivals (length arrivals.at.now) new
+  pub handed : (place : ℕ) (default : Constraint) → start ≤ place → place < length arrivals.constraints.now
+      → (slice_index_or arrivals.constraints.now place default).tail ≡ register
+      → IsHandedBy arrivals new place
 
 -- no tight constraint leads from what is reached to what isn't
-pub record IsWhole (constraints : List Constraint) (period : Fraction) (at : List ℤ)
+pub record IsWhole (arrivals : Arrivals)
     (reach : Reach) : Type 0 where
-  pub reaching : IsReaching constraints period at (length at) reach
-  pub handed : (place : ℕ) (default : Constraint) → place < length constraints
-      → IsReached reach (slice_index_or constraints place default).tail
-      → IsHandedBy constraints period at reach place
+  pub reaching : IsReaching arrivals (length arrivals.at.now) reach
+  pub handed : (place : ℕ) (default : Constraint) → place < length arrivals.constraints.now
+      → IsReached reach (slice_index_or arrivals.constraints.now place default).tail
+      → IsHandedBy arrivals reach place

@@ -1,15 +1,9 @@
 ghost use Rattle.std.specs.Prelude.{◌≡◌, ◌^◌, All, IfOk, length, nat_abs};
-ghost use Rattle.cts_model.specs.timing.Constraints.{AreSmallConstraints};
-ghost use Rattle.cts_model.specs.placement.Points.{IsBelow};
-ghost use Rattle.relaxation.specs.Gains.{AdmitsGains};
-ghost use Rattle.schedule.specs.Gains.{AreGainsOf, AreLeastArrivalsBy};
-ghost use Rattle.schedule.specs.Rises.{CanRaise};
-ghost use Rattle.schedule.specs.Schedules.{AreWithinWeights, IsAdmittedBy, IsLeastScheduleOf};
-ghost use Rattle.cts_model.specs.timing.Schedules.{IsSmallPeriod};
+ghost use Rattle.schedule.specs.Vocabulary.{AdmitsGains, AreGainsOf, AreLeastArrivalsBy, AreSmallConstraints, AreWithinWeights, CanRaise, IsAdmittedBy, IsBelow, IsLeastScheduleOf, IsSmallPeriod};
 
 use cts_base::{Fraction, Listed, NoMemory};
 use cts_model::{Constraint, Schedule};
-use relaxation::{Gains, Relaxation, Turns};
+use relaxation::{Gains, Relaxation, Rounds};
 use std::alloc::Global;
 
 /// The least arrivals that satisfy the constraints at a period in ticks. The list has an entry for
@@ -29,8 +23,8 @@ pub fn least_schedule_in(
     ensures bound { AreWithinWeights constraints.now (nat_abs period.den) result.at }
     ensures small { All (IsBelow (10 ^ 19)) result.at }
 {
-    let relaxation = Relaxation::without_parents(at.into_vec());
-    let at = settled(relaxation, constraints.as_slice(), gains_of(period));
+    let relaxation = Relaxation::without_parents(constraints.as_slice(), at.into_vec());
+    let at = settled(relaxation, gains_of(period));
     Schedule {
         den: period.den(),
         at,
@@ -83,23 +77,20 @@ pub fn least_arrivals(
     ensures least { IfOk result (AreLeastArrivalsBy constraints.now gains) }
     ensures small { IfOk result (All (IsBelow (2 ^ 93))) }
 {
-    let list = constraints.as_slice();
-    let mut relaxation = Relaxation::new(alloc, registers)?;
-    let mut links = vec![in alloc; 0u32; registers]?;
-    let mut turns = Turns::new(alloc, registers, list, gains)?;
-    relaxation.raise_in_rounds(list, gains, &mut links, &mut turns);
-    Ok(settled(relaxation, list, gains))
+    let mut rounds = Rounds::new(alloc, registers, constraints.as_slice(), gains)?;
+    rounds.raise(gains);
+    Ok(settled(rounds.relaxation, gains))
 }
 
 // The arrivals once sweeps have raised them until the constraints are satisfied.
-fn settled(relaxation: Relaxation, constraints: &[Constraint], gains: Gains) -> Listed<i128>
-    requires { CanRaise constraints.now gains relaxation.values.items }
-    ensures registers { length result ≡ length relaxation.values.items }
-    ensures least { AreLeastArrivalsBy constraints.now gains result }
+fn settled(relaxation: Relaxation<'_>, gains: Gains) -> Listed<i128>
+    requires { CanRaise relaxation.constraints.now gains relaxation.values.items }
+    ensures registers { length result ≡ length relaxation.entry.values.items }
+    ensures least { AreLeastArrivalsBy relaxation.entry.constraints.now gains result }
     ensures small { All (IsBelow (2 ^ 93)) result }
 {
     let mut relaxation = relaxation;
-    relaxation.satisfy(constraints, gains);
+    relaxation.satisfy(gains);
     Listed::from_vec(relaxation.values)
 }
 

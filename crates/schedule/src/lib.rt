@@ -1,6 +1,7 @@
 //! The least arrivals at which registers meet constraints between them at a period, and why.
 #![tactic(auto)]
 
+mod arrivals;
 mod least;
 mod reach;
 mod tight;

@@ -1,10 +1,7 @@
-ghost use Rattle.std.specs.Prelude.{◌≡◌, ◌≤◌, ◌↔◌, ℕ, Contains, IfOk, IsTrue, length, nat_abs};
-ghost use Rattle.cts_model.specs.timing.Constraints.{AreSmallConstraints, IsSmallConstraint};
-ghost use Rattle.schedule.specs.Schedules.{IsAdmittedBy, IsLeastScheduleOf};
-ghost use Rattle.cts_model.specs.timing.Schedules.{AreFromZero, IsSmallPeriod, arrival_of};
-ghost use Rattle.cts_model.specs.timing.Leads.{EachLead, IsTight, depth_of, lead_at};
+ghost use Rattle.std.specs.Prelude.{◌≡◌, ◌≤◌, ℕ, Contains, IfOk, length, nat_abs};
+ghost use Rattle.schedule.specs.Vocabulary.{AreSmallConstraints, EachLead, IsAdmittedBy, IsLeastScheduleOf, IsSmallPeriod, depth_of, lead_at};
 
-use crate::least::gains_of;
+use crate::arrivals::Arrivals;
 use crate::reach::Reach;
 use cts_base::{Fraction, Listed, NoMemory};
 use cts_model::{Constraint, Lead, Schedule};
@@ -39,9 +36,14 @@ pub fn leads(
         → depth_of (lead_at leads register) ≤ registers) }
 {
     let tails = ByTail::of(alloc, registers, constraints.as_slice())?;
-    let at = schedule.at.as_slice();
-    let mut reach = Reach::start(alloc, at)?;
-    reach.reach_all(&tails, constraints.as_slice(), at, period)?;
+    let arrivals = Arrivals {
+        constraints: constraints.as_slice(),
+        tails: &tails,
+        at: schedule.at.as_slice(),
+        period,
+    };
+    let mut reach = Reach::start(alloc, &arrivals)?;
+    reach.reach_all(&arrivals)?;
     Ok(Listed::from_vec(reach.leads))
 }
 
@@ -53,15 +55,4 @@ pub(crate) fn depth_of(lead: &Lead) -> u32
         Lead::Zero => 0,
         Lead::Tight { depth, .. } => *depth,
     }
-}
-
-/// Whether the head's arrival is just what the constraint asks.
-pub(crate) fn is_tight(constraint: &Constraint, at: &[i128], period: Fraction) -> bool
-    requires small { IsSmallConstraint (length at.now) constraint.now }
-    requires period { IsSmallPeriod period }
-    requires from_zero { AreFromZero (length at.now) (arrival_of at.now) }
-    ensures { IsTrue result ↔ IsTight period at.now constraint.now }
-{
-    let gain = gains_of(period).gain(constraint);
-    at[constraint.head as usize] - at[constraint.tail as usize] == gain
 }

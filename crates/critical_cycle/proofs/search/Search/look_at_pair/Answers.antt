@@ -5,11 +5,6 @@ use Rattle.critical_cycle.proofs.search.Search.look_at_pair.Goals as goal
 
 pub consider-requires-clause-few : goal.consider-requires-clause-few
 consider-requires-clause-few c =
-    let search = c.requires.search in
+    let search = c.args.self.now in
     let closes = c.if-closes_with_next.ensures refl in
-    omega (
-      arith,
-      two_registers _ c.args.constraints.now c.args.place search.room.small closes,
-      search.room.parents,
-      search.places,
-    )
+    omega (arith, two_registers _ search.constraints.now c.args.place search.small closes)

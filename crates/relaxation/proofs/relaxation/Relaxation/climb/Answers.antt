@@ -5,11 +5,11 @@ use Rattle.relaxation.proofs.relaxation.Relaxation.climb.Goals as goal
 
 pub returns-in_err-register-clause-reaches : goal.returns-in_err-register-clause-reaches
 returns-in_err-register-clause-reaches c =
-    let constraints = c.args.constraints.now in
+    let constraints = c.args.self.now.constraints.now in
     let relaxation = c.args.self.now in
     let parents = relaxation.parents.items in
     let within : c.loop-step.register < length parents =
-    omega (arith, c.loop-step.invariant.0, c.requires.entries.parents) in
+    omega (arith, c.loop-step.invariant.0, c.requires.parents) in
     let inside : c.loop-step._step < length parents = omega (arith, relaxation.parents.ok.0) in
     let none : parent_of constraints parents c.loop-step.register ≡ None = parent_read
     constraints parents c.loop-step.register c.index-parent.result.now within c.index-parent.ensures
@@ -20,13 +20,13 @@ returns-in_err-register-clause-reaches c =
 
 pub loop-step-preserved : goal.loop-step-preserved
 loop-step-preserved c =
-    let constraints = c.args.constraints.now in
+    let constraints = c.args.self.now.constraints.now in
     let relaxation = c.args.self.now in
     let parents = relaxation.parents.items in
     let parent : Constraint = c.in_ok-register.field-0.now in
     let found = c.in_ok-register.ensures.lookup.3 in
     let within : c.loop-step.register < length parents =
-    omega (arith, c.loop-step.invariant.0, c.requires.entries.parents) in
+    omega (arith, c.loop-step.invariant.0, c.requires.parents) in
     let inside : c.loop-step._step < length parents = omega (arith, relaxation.parents.ok.0) in
     let here : parent_of constraints parents c.loop-step.register ≡ Some parent =
     parent_read constraints parents c.loop-step.register c.index-parent.result.now within
@@ -34,5 +34,5 @@ loop-step-preserved c =
     c.index-parent.result.now parent refl found.0 (found.1 parent) in
     let small : IsSmallConstraint (length relaxation.values.items) parent =
     subst (IsSmallConstraint (length relaxation.values.items)) (sym (found.1 parent))
-    (c.requires.entries.small.each c.index-parent.result.now parent found.0) in
+    (c.args.self.now.small.each c.index-parent.result.now parent found.0) in
     (small.tail, IsClimbing-more c.loop-step.invariant.1 parent inside here)

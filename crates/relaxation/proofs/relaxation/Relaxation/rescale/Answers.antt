@@ -4,5 +4,5 @@ use Rattle.relaxation.proofs.PrepareLemmas.{IsPrepared-more}
 use Rattle.relaxation.proofs.relaxation.Relaxation.rescale.Goals as goal
 
 pub loop-register-preserved : goal.loop-register-preserved
-loop-register-preserved c = IsPrepared-more (omega arith) refl refl c.rescaled.ensures
+loop-register-preserved c = IsPrepared-more (omega arith) refl refl refl c.rescaled.ensures
     c.loop-register.invariant

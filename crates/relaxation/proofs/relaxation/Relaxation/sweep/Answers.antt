@@ -7,13 +7,12 @@ pub loop-turn-init : goal.loop-turn-init
 loop-turn-init c = IsUnderWay-none c.args.self.now
 
 pub relax-requires-clause-small : goal.relax-requires-clause-small
-relax-requires-clause-small c = small_now c.requires.constraints c.loop-turn.invariant
-    (omega (arith, c.requires.constraints.few)) c.requires.small
+relax-requires-clause-small c = small_now c.loop-turn.invariant
+    (omega (arith, c.args.self.now.small.few)) c.requires
 
 pub loop-turn-preserved : goal.loop-turn-preserved
-loop-turn-preserved c = rw c.or-changed.ensures (IsUnderWay-more c.requires.constraints
-    c.loop-turn.invariant c.relax.result c.place_at-place.ensures.place
+loop-turn-preserved c = rw c.or-changed.ensures (IsUnderWay-more c.loop-turn.invariant c.relax.result c.place_at-place.ensures.place
     c.place_at-place.ensures.within c.relax.ensures)
 
 pub returns : goal.returns
-returns c = IsSweep-all c.requires.constraints c.loop-turn.invariant (omega arith)
+returns c = IsSweep-all c.loop-turn.invariant (omega arith)

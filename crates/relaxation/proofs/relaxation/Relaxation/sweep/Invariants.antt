@@ -3,4 +3,4 @@ use Rattle.relaxation.proofs.relaxation.Relaxation.sweep.Given as goal
 
 abbrev pub invariant-loop-turn : goal.invariant-loop-turn
 invariant-loop-turn l =
-    IsUnderWay l.constraints l.gains l.forwards l.turn l.changed l.initial.self l.self
+    IsUnderWay l.gains l.forwards l.turn l.changed l.initial.self l.self

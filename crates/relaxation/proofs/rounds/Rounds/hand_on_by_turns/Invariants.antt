@@ -1,0 +1,5 @@
+use Rattle.relaxation.proofs.Vocabulary.{HasRisen}
+use Rattle.relaxation.proofs.rounds.Rounds.hand_on_by_turns.Given as goal
+
+abbrev pub invariant-loop-turn : goal.invariant-loop-turn
+invariant-loop-turn l = HasRisen l.gains l.initial.self l.self

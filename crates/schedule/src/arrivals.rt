@@ -1,0 +1,33 @@
+ghost use Rattle.std.specs.Prelude.{◌↔◌, IsTrue, length};
+ghost use Rattle.cts_model.specs.timing.Constraints.{IsSmallConstraint};
+ghost use Rattle.cts_model.specs.timing.Leads.{IsTight};
+ghost use Rattle.relaxation.specs.Tails.{AreByTail};
+ghost use Rattle.schedule.specs.Given.{IsGiven};
+
+use crate::least::gains_of;
+use cts_base::Fraction;
+use cts_model::Constraint;
+use relaxation::ByTail;
+
+/// Arrivals at a period, and constraints between their registers by the tails.
+#[derive(Clone, Copy)]
+pub(crate) struct Arrivals<'a> {
+    pub(crate) constraints: &'a [Constraint],
+    pub(crate) tails: &'a ByTail,
+    pub(crate) at: &'a [i128],
+    pub(crate) period: Fraction,
+    pub(crate) ghost given: { IsGiven constraints.now period at.now },
+    pub(crate) ghost linked: { AreByTail constraints.now (length at.now) (length constraints.now)
+        tails.now.last.items tails.now.before.items },
+}
+
+impl Arrivals<'_> {
+    /// Whether the head's arrival is just what the constraint asks.
+    pub(crate) fn has_tight(&self, constraint: &Constraint) -> bool
+        requires { IsSmallConstraint (length self.now.at.now) constraint.now }
+        ensures { IsTrue result ↔ IsTight self.now.period self.now.at.now constraint.now }
+    {
+        let gain = gains_of(self.period).gain(constraint);
+        self.at[constraint.head as usize] - self.at[constraint.tail as usize] == gain
+    }
+}
