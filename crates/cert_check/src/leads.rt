@@ -9,7 +9,7 @@ ghost use Rattle.cert_check.specs.TightLeads.{FitsLeads, IsTested, tight_constra
 
 use crate::down::are_same;
 use crate::judge::Judge;
-use crate::value::{asked, count_of};
+use crate::period::{asked, count_of};
 use crate::verdict::{Reason, Stop};
 use cts_base::NoMemory;
 use cts_model::{Constraint, Lead};
@@ -54,21 +54,12 @@ impl Judge<'_> {
             (lead_at self.now.report.now.leads register) given }
         ensures { IsTrue result ↔ Earliest self.now register }
     {
-        self.arrival(register) >= 0 && self.shows_earliest(register, given)
-    }
-
-    // Whether a register's lead shows that nothing is earlier.
-    fn shows_earliest(&self, register: usize, given: bool) -> bool
-        requires register { register < length self.now.report.now.leads }
-        requires given { IsTested self.now.problem.now.circuit self.now.problem.now.tech
-            (lead_at self.now.report.now.leads register) given }
-        ensures { IsTrue result ↔ ShowsEarliest (IsConstraintOf self.now.problem.now.circuit
-            self.now.problem.now.tech) self.now.report.now.period self.now.report.now.schedule.at
-            self.now.report.now.leads register (lead_at self.now.report.now.leads register) }
-    {
+        let arrival = self.arrival(register);
         match self.lead(register) {
-            Lead::Zero => self.arrival(register) == 0,
-            Lead::Tight { depth, constraint } => self.is_led(register, depth, &constraint, given),
+            Lead::Zero => arrival == 0,
+            Lead::Tight { depth, constraint } => {
+                arrival >= 0 && self.is_led(register, depth, &constraint, given)
+            }
         }
     }
 

@@ -22,9 +22,7 @@ mod reaches;
 mod shape;
 mod shaped;
 mod shows;
-mod sinks;
 mod slacks;
-mod value;
 mod verdict;
 
 pub use checking::check;

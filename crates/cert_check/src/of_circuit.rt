@@ -82,8 +82,8 @@ fn pairs_of(alloc: Global, constraints: &[Constraint]) -> Result<Vec<(u32, u32)>
     Ok(pairs)
 }
 
-// The register that launches along a constraint's paths, and the one that captures.
-fn pair_of(constraint: Constraint) -> (u32, u32)
+/// The register that launches along a constraint's paths, and the one that captures.
+pub(crate) fn pair_of(constraint: Constraint) -> (u32, u32)
     ensures { result ≡ pair_of constraint }
 {
     if constraint.setup {

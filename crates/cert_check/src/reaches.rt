@@ -47,8 +47,7 @@ impl ShapedTree<'_> {
         ensures { Judges (length self.now.judge.sinks.now) (Skewed self.now.judge) SkewDiffers
             result }
     {
-        let lengths = self.judge.report.tree.length.as_slice();
-        let wires = self.wires_down(alloc, lengths)?;
+        let wires = self.wires_down(alloc)?;
         let tree = WiredTree {
             judge: self.judge,
             wires: wires.as_slice(),

@@ -75,20 +75,12 @@ fn judge_merges(alloc: Global, sinks: usize, merges: &[Merge]) -> Result<(), Sto
     for place in 0..merges.len() {
         let merge = merges[place];
         if !is_of_unmarked(merge, sinks + place, joined.as_slice()) {
-            return Err(Stop::At(shape_of(sinks + place)));
+            return Err(Stop::At(Reason::TreeShape((sinks + place) as u32)));
         }
         joined[merge.first as usize] = true;
         joined[merge.second as usize] = true;
     }
     Ok(())
-}
-
-// The reason of a node that isn't as it has to be.
-fn shape_of(node: usize) -> Reason
-    requires { node ≤ 8193 }
-    ensures { result ≡ TreeShape node }
-{
-    Reason::TreeShape(node as u32)
 }
 
 // Whether a merge joins two of so many nodes that aren't marked, the lower number first.

@@ -12,7 +12,7 @@ use crate::down::{are_same, difference, sum};
 use crate::item::item_at;
 use crate::judge::Judge;
 use crate::shaped::ShapedTree;
-use cts_model::{Merge, Show, Sink, Uv};
+use cts_model::{Show, Sink, Uv};
 
 impl ShapedTree<'_> {
     ghost use Rattle.cert_check.specs.ReachParts.{IsMergeShown};
@@ -40,7 +40,9 @@ impl ShapedTree<'_> {
     {
         let merge = item_at(self.judge.report.topology.merges.as_slice(), place);
         let node = self.judge.sinks.len() + place;
-        self.judge.is_over_both(node, *merge) && self.shows_merge(place)
+        self.judge.is_reach_over(node, merge.first as usize)
+            && self.judge.is_reach_over(node, merge.second as usize)
+            && self.shows_merge(place)
     }
 
     // Whether the show of a merge, of its own sinks, gives its reach.
@@ -85,25 +87,15 @@ impl ShapedTree<'_> {
     {
         let sinks = self.judge.sinks;
         let reach = self.judge.reach(node);
-        self.has_both_below(node, first, second)
+        first <= second
+            && self.has_below(node, first as usize)
+            && self.has_below(node, second as usize)
             && is_half_of_span(reach, sinks[first as usize], sinks[second as usize])
     }
 }
 
 impl Judge<'_> {
     ghost use Rattle.cert_check.specs.ReachParts.{IsReachOver, IsSourceShown};
-
-    // Whether a node's reach is that of both nodes that a merge joins.
-    fn is_over_both(&self, node: usize, merge: Merge) -> bool
-        requires node { node < 2 * length self.now.sinks.now }
-        requires first { merge.first + 1 < 2 * length self.now.sinks.now }
-        requires second { merge.second + 1 < 2 * length self.now.sinks.now }
-        ensures { IsTrue result ↔ (IsReachOver self.now.report.now.tree node merge.first
-            × IsReachOver self.now.report.now.tree node merge.second) }
-    {
-        self.is_reach_over(node, merge.first as usize)
-            && self.is_reach_over(node, merge.second as usize)
-    }
 
     // Whether the source's reach is that of the root, and its show gives it.
     fn is_source_shown(&self) -> bool
