@@ -1,6 +1,6 @@
 -- Judgements one after the other: what is left where all before hold, and that all hold where a
 -- report is shown.
-use Rattle.cert_check.proofs.Vocabulary.{◌≡◌, ℕ, ap, inl, inr, refl, IsErrAnd, Result, Ok, Err, Problem, Report, AtEach, IsShown, IsShownTiming, IsShownTree, sinks_in, source_in, Reason, Stop, At, NoMemory, Shown, Not, Decides, Judged, JudgedOnce, Judges, JudgesOnce, JudgedTree, IsVerdict}
+use Rattle.cert_check.proofs.Vocabulary.{◌≡◌, ◌⊎◌, ℕ, ap, inl, inr, refl, IsErrAnd, Result, Ok, Err, Problem, Report, AtEach, IsShown, IsShownTiming, IsShownTree, sinks_in, source_in, Reason, Stop, At, NoMemory, Shown, Not, Decides, Judged, JudgedOnce, Judges, JudgesOnce, JudgedTree, IsVerdict}
 use Rattle.cert_check.specs.declared.judge.Judge.{Judge}
 use Rattle.cert_check.specs.declared.verdict.Verdict.{Verdict}
 use Rattle.cert_check.proofs.FirstPlaces.{passed_on}
@@ -92,21 +92,30 @@ last_once Holds reason IsVerdict (Err NoMemory) none after = tt
 
 -- what stops a judgement decides
 pub stops_once : (Holds : Type 0) (reason : Reason) (Next : Verdict → Type 0)
-    (IsVerdict : Verdict → Type 0) (stop : Stop) → JudgesOnce Holds reason {T = Unit {0}} (Err stop)
+    (IsVerdict : Verdict → Type 0) (result : Result (Unit {0}) Stop) (stop : Stop)
+    → IsErrAnd result (λ passed. passed ≡ stop) → JudgesOnce Holds reason {T = Unit {0}} (Err stop)
     → ((verdict : Verdict) → JudgedOnce Holds reason verdict (Next verdict) → IsVerdict verdict)
-    → Decides IsVerdict {T = Unit {0}} (Err stop)
-stops_once Holds reason Next IsVerdict (At given) (fails, is) after =
-    after (Not given) (inl (fails, ap Not is))
-stops_once Holds reason Next IsVerdict NoMemory none after = tt
+    → Decides IsVerdict result
+stops_once Holds reason Next IsVerdict result (At given) is (fails, same) after =
+    passed_on (Decides IsVerdict) result (At given) is (after (Not given) (inl (fails, ap Not same)))
+stops_once Holds reason Next IsVerdict result NoMemory is none after =
+    passed_on (Decides IsVerdict) result NoMemory is tt
 
 pub stops_places : (places : ℕ) (Holds : ℕ → Type 0) (reason : ℕ → Reason)
-    (Next : Verdict → Type 0) (IsVerdict : Verdict → Type 0) (stop : Stop)
+    (Next : Verdict → Type 0) (IsVerdict : Verdict → Type 0) (result : Result (Unit {0}) Stop)
+    (stop : Stop) → IsErrAnd result (λ passed. passed ≡ stop)
     → Judges places Holds reason {T = Unit {0}} (Err stop)
     → ((verdict : Verdict) → Judged places Holds reason verdict (Next verdict)
-    → IsVerdict verdict) → Decides IsVerdict {T = Unit {0}} (Err stop)
-stops_places places Holds reason Next IsVerdict (At given) (place, first, is) after =
-    after (Not given) (inl (place, first, ap Not is))
-stops_places places Holds reason Next IsVerdict NoMemory none after = tt
+    → IsVerdict verdict) → Decides IsVerdict result
+stops_places places Holds reason Next IsVerdict result (At given) is (place, first, same) after =
+    passed_on (Decides IsVerdict) result (At given) is
+    (after (Not given) (inl (place, first, ap Not same)))
+stops_places places Holds reason Next IsVerdict result NoMemory is none after =
+    passed_on (Decides IsVerdict) result NoMemory is tt
+
+-- what holds passes to what is judged next
+pub passed : {Fails Holds Next : Type 0} → Holds → Next → Fails ⊎ (Holds × Next)
+passed holds next = inr (holds, next)
 
 module _ (problem : Problem) (report : Report) {verdict : Verdict}
     (judged : IsVerdict problem report verdict) where

@@ -2,11 +2,7 @@ ghost use Rattle.std.specs.Prelude.{◌≡◌, ◌↔◌, IfOk};
 ghost use Rattle.cts_model.specs.report.ReportBounds.{IsOfSize, IsWithinBounds};
 ghost use Rattle.cts_model.specs.report.SaidReports.{ShowsWhatItSays};
 ghost use Rattle.cts_model.specs.report.Shown.{IsShown, ShowsLeast, cycle_of};
-ghost use Rattle.gate_order.specs.LevelParts.{IsLevelsOf};
-ghost use Rattle.cert_check.specs.declared.verdict.Verdict.{Verdict};
-ghost use Rattle.cert_check.specs.Judged.{Decides};
-ghost use Rattle.cert_check.specs.JudgedReports.{HasPaths, HasSlacks, JudgedTree};
-ghost use Rattle.cert_check.specs.Verdicts.{IsVerdict, IsVerdictBy};
+ghost use Rattle.cert_check.specs.Vocabulary.{IsLevelsOf, Verdict, Decides, HasPaths, HasSlacks, JudgedTree, IsVerdict, IsVerdictBy};
 
 use crate::Verdict;
 use crate::judge::Judge;

@@ -1,6 +1,6 @@
 ghost use Rattle.std.specs.Prelude.{◌≡◌, ◌<◌, ◌↔◌, All, IsTrue, length};
 ghost use Rattle.cts_model.specs.report.Judgements.{HoldsTogether, next_place};
-ghost use Rattle.cert_check.specs.CyclePlaces.{AreTailsBefore};
+ghost use Rattle.cert_check.specs.Vocabulary.{AreTailsBefore, CycleBroken, Judges, Together};
 
 use crate::item::item_at;
 use crate::judge::Judge;
@@ -9,10 +9,6 @@ use cts_model::Constraint;
 use std::alloc::Global;
 
 impl Judge<'_> {
-    ghost use Rattle.cert_check.specs.declared.verdict.Reason.TheVariants.{CycleBroken};
-    ghost use Rattle.cert_check.specs.Judged.{Judges};
-    ghost use Rattle.cert_check.specs.JudgedReports.{Together};
-
     /// Whether the cycle holds together at each place.
     pub(crate) fn judge_joins(&self, alloc: Global) -> Result<(), Stop>
         ensures { Judges (length self.now.cycle.now) (Together self.now) CycleBroken result }

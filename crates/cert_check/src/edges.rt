@@ -1,5 +1,5 @@
 ghost use Rattle.std.specs.Prelude.{◌<◌, ◌↔◌, IsTrue, length};
-ghost use Rattle.cert_check.specs.JudgedReports.{Drawn, LongEnough};
+ghost use Rattle.cert_check.specs.Vocabulary.{Drawn, LongEnough, TooShort, WireSum, Judges};
 
 use crate::drawn::is_drawn;
 use crate::shaped::ShapedTree;
@@ -7,9 +7,6 @@ use crate::verdict::{Reason, Stop};
 use cts_model::manhattan;
 
 impl ShapedTree<'_> {
-    ghost use Rattle.cert_check.specs.declared.verdict.Reason.TheVariants.{TooShort, WireSum};
-    ghost use Rattle.cert_check.specs.Judged.{Judges};
-
     /// Whether each edge is as long as the way between its ends, or longer.
     pub(crate) fn judge_lengths(&self) -> Result<(), Stop>
         ensures { Judges (length self.now.judge.report.now.tree.length)

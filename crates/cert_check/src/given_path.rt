@@ -2,7 +2,8 @@ ghost use Rattle.std.specs.Prelude.{◌≡◌, ◌⊎◌, ◌<◌, ◌≤◌, �
 ghost use Rattle.cts_model.specs.timing.ConstraintPaths.{GivesWeight};
 ghost use Rattle.cts_model.specs.netlist.Paths.{IsGate};
 ghost use Rattle.cts_model.specs.placement.Points.{IsBelow};
-ghost use Rattle.cert_check.specs.GivenConstraints.{pair_of, path_weight};
+ghost use Rattle.cts_model.specs.declared.report.Version.TheVariants.{Second};
+ghost use Rattle.cert_check.specs.Vocabulary.{pair_of, path_weight, PathBroken, Judges, GivenPath};
 
 use crate::delay::path_delay;
 use crate::item::item_at;
@@ -12,11 +13,6 @@ use crate::verdict::{Reason, Stop};
 use cts_model::{Circuit, Constraint, Tech};
 
 impl Judge<'_> {
-    ghost use Rattle.cts_model.specs.declared.report.Version.TheVariants.{Second};
-    ghost use Rattle.cert_check.specs.declared.verdict.Reason.TheVariants.{PathBroken};
-    ghost use Rattle.cert_check.specs.Judged.{Judges};
-    ghost use Rattle.cert_check.specs.JudgedReports.{GivenPath};
-
     /// Whether the path at each place of the cycle, if it is printed, gives the constraint its
     /// weight.
     pub(crate) fn judge_paths(&self) -> Result<(), Stop>

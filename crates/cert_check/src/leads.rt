@@ -4,8 +4,8 @@ ghost use Rattle.cts_model.specs.timing.Leads.{IsLedBy, IsTight, ShowsEarliest, 
 ghost use Rattle.cts_model.specs.placement.Points.{IsBelow};
 ghost use Rattle.cts_model.specs.report.ReportBounds.{IsSmallLead, LeadsAmong};
 ghost use Rattle.cts_model.specs.timing.Schedules.{arrival_of};
-ghost use Rattle.cert_check.specs.JudgedReports.{Earliest, HasPaths};
-ghost use Rattle.cert_check.specs.TightLeads.{FitsLeads, IsTested, tight_constraints};
+ghost use Rattle.cts_model.specs.declared.report.Version.TheVariants.{Second};
+ghost use Rattle.cert_check.specs.Vocabulary.{Earliest, HasPaths, FitsLeads, IsTested, tight_constraints, NotLeast, Judges};
 
 use crate::down::are_same;
 use crate::judge::Judge;
@@ -17,10 +17,6 @@ use path_delays::Paths;
 use std::alloc::Global;
 
 impl Judge<'_> {
-    ghost use Rattle.cts_model.specs.declared.report.Version.TheVariants.{Second};
-    ghost use Rattle.cert_check.specs.declared.verdict.Reason.TheVariants.{NotLeast};
-    ghost use Rattle.cert_check.specs.Judged.{Judges};
-
     /// Whether, where leads are printed, each arrival is from 0 on and its lead shows that none is
     /// earlier.
     pub(crate) fn judge_leads(&self, alloc: Global, paths: &mut Paths) -> Result<(), Stop>

@@ -1,7 +1,7 @@
 ghost use Rattle.std.specs.Prelude.{◌≡◌, ◌<◌, ◌↔◌, All, IsTrue, length};
 ghost use Rattle.cts_model.specs.netlist.Kinds as kinds;
 ghost use Rattle.cts_model.specs.netlist.Paths.{Captures, IsPath, Launches, Reads};
-ghost use Rattle.cert_check.specs.WalkedPaths.{LeadsTo};
+ghost use Rattle.cert_check.specs.Vocabulary.{LeadsTo};
 
 use crate::given_path::ShownPath;
 use crate::item::item_at;

@@ -5,6 +5,7 @@ ghost use Rattle.cts_model.specs.report.Judgements.{GivesPeriod, IsFromFloor};
 ghost use Rattle.cts_model.specs.placement.Points.{IsBelow};
 ghost use Rattle.cts_model.specs.report.ReportBounds.{HasSmallWeight};
 ghost use Rattle.cts_model.specs.timing.Schedules.{IsSmallPeriod};
+ghost use Rattle.cert_check.specs.Vocabulary.{BelowFloor, CycleValue, JudgesOnce};
 
 use crate::down::are_same;
 use crate::judge::Judge;
@@ -13,9 +14,6 @@ use cts_base::Fraction;
 use cts_model::{Constraint, PeriodShow, product};
 
 impl Judge<'_> {
-    ghost use Rattle.cert_check.specs.declared.verdict.Reason.TheVariants.{BelowFloor, CycleValue};
-    ghost use Rattle.cert_check.specs.Judged.{JudgesOnce};
-
     /// Whether the period isn't below the floor of the delay table.
     pub(crate) fn judge_floor(&self) -> Result<(), Stop>
         ensures { JudgesOnce (IsFromFloor self.now.problem.now.tech self.now.report.now.period)

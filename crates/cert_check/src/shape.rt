@@ -1,10 +1,7 @@
 ghost use Rattle.std.specs.Prelude.{◌≡◌, ◌↔◌, ◌<◌, ◌≤◌, ◌+◌, ◌*◌, IfOk, IsTrue, length};
 ghost use Rattle.cts_model.specs.tree.Topologies.{IsTopology, source_of};
 ghost use Rattle.cts_model.specs.placement.Points.{rotated};
-ghost use Rattle.cert_check.specs.declared.verdict.Reason.TheVariants.{TreeShape};
-ghost use Rattle.cert_check.specs.Judged.{Judges, JudgesOnce};
-ghost use Rattle.cert_check.specs.EmbeddingParts.{IsOfUnmarked, JoinsAt, StandsAt};
-ghost use Rattle.cert_check.specs.JudgedReports.{Shaped, tree_of};
+ghost use Rattle.cert_check.specs.Vocabulary.{TreeShape, Judges, JudgesOnce, IsOfUnmarked, JoinsAt, StandsAt, Shaped, tree_of};
 
 use crate::judge::Judge;
 use crate::verdict::{Reason, Stop};

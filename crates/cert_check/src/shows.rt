@@ -5,8 +5,7 @@ ghost use Rattle.cts_model.specs.report.ReportBounds.{ShowsAmong};
 ghost use Rattle.cts_model.specs.report.ReportLines.{number_at};
 ghost use Rattle.cts_model.specs.tree.ShownReaches.{IsPairShow, ShowsMerge, ShowsSource};
 ghost use Rattle.cts_model.specs.tree.Topologies.{numbers_below, root_of, source_of};
-ghost use Rattle.cert_check.specs.JudgedReports.{HasReach};
-ghost use Rattle.cert_check.specs.SmallSinks.{IsSmallSink};
+ghost use Rattle.cert_check.specs.Vocabulary.{HasReach, IsSmallSink, IsMergeShown, IsReachOver, IsSourceShown};
 
 use crate::down::{are_same, difference, sum};
 use crate::item::item_at;
@@ -15,8 +14,6 @@ use crate::shaped::ShapedTree;
 use cts_model::{Show, Sink, Uv};
 
 impl ShapedTree<'_> {
-    ghost use Rattle.cert_check.specs.ReachParts.{IsMergeShown};
-
     /// Whether the reach of a merge or of the source is that of each node below it with the length
     /// of that one's edge, and its show gives it.
     pub(crate) fn is_reach_shown(&self, node: usize) -> bool
@@ -95,8 +92,6 @@ impl ShapedTree<'_> {
 }
 
 impl Judge<'_> {
-    ghost use Rattle.cert_check.specs.ReachParts.{IsReachOver, IsSourceShown};
-
     // Whether the source's reach is that of the root, and its show gives it.
     fn is_source_shown(&self) -> bool
         ensures { IsTrue result
