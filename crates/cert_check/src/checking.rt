@@ -6,8 +6,7 @@ ghost use Rattle.cert_check.specs.Vocabulary.{IsLevelsOf, Verdict, Decides, HasP
 
 use crate::Verdict;
 use crate::judge::Judge;
-use crate::parents::parents_of;
-use crate::shaped::ShapedTree;
+use crate::shaped::{ShapedTree, parents_of};
 use crate::verdict::Stop;
 use cts_base::NoMemory;
 use cts_model::{Constraint, Grid, PeriodShow, Problem, Report, Slack, laws};
@@ -90,10 +89,10 @@ fn judge_all(alloc: Global, judge: &Judge, paths: &mut Paths, slacks: &[Slack]) 
     judge.judge_value()?;
     judge.judge_schedule(slacks)?;
     judge.judge_shape(alloc)?;
-    let parents = parents_of(alloc, &judge.merges())?;
+    let merges = judge.report.topology.merges.as_slice();
     let tree = ShapedTree {
         judge: *judge,
-        parents,
+        parents: parents_of(alloc, judge.sinks.len(), merges)?,
     };
     judge_tree(alloc, &tree)?;
     judge.judge_slacks(slacks)?;
