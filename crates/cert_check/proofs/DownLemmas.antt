@@ -51,7 +51,8 @@ module _ {sinks : ℕ} {merges : List Merge} (topology : IsTopology sinks merges
     -- the wire down to the parent is small, as it is read
     pub read_small : (read : ℤ) → read ≡ get_or wires up read → done ≤ 9998 → IsBelow (10 ^ 36) read
     read_small read is few = subst (IsBelow (10 ^ 36)) (sym is)
-        (handed_small wires done handed few up read (omega (arith, handed.all, stands, topology.all)))
+        (handed_small wires done handed few up read
+        (omega (arith, handed.all, stands, topology.all)))
 
     -- and so the code adds it as it is
     pub sum_kept : (read sum : ℤ) → read ≡ get_or wires up read → done ≤ 9998

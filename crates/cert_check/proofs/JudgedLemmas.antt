@@ -97,7 +97,8 @@ pub stops_once : (Holds : Type 0) (reason : Reason) (Next : Verdict → Type 0)
     → ((verdict : Verdict) → JudgedOnce Holds reason verdict (Next verdict) → IsVerdict verdict)
     → Decides IsVerdict result
 stops_once Holds reason Next IsVerdict result (At given) is (fails, same) after =
-    passed_on (Decides IsVerdict) result (At given) is (after (Not given) (inl (fails, ap Not same)))
+    passed_on (Decides IsVerdict) result (At given) is
+    (after (Not given) (inl (fails, ap Not same)))
 stops_once Holds reason Next IsVerdict result NoMemory is none after =
     passed_on (Decides IsVerdict) result NoMemory is tt
 

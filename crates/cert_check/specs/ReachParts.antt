@@ -1,6 +1,6 @@
 -- What the judgement of reaches compares in one tree. Boese and Kahng 1992;
 -- Chao and others 1992.
-use Rattle.std.specs.Prelude.{◌≡◌, ◌≤◌, ◌+◌, ℕ, ℤ, ◌-ℤ◌, List, Contains, length, IfSome, IsSomeAnd, slice_get}
+use Rattle.std.specs.Prelude.{◌≡◌, ◌+◌, ℕ, ℤ, ◌-ℤ◌, List, length, IfSome, IsSomeAnd, slice_get}
 use Rattle.cts_model.specs.declared.place.Sink.{Sink}
 use Rattle.cts_model.specs.declared.place.Uv.{Uv}
 use Rattle.cts_model.specs.declared.report.Report.{Report}

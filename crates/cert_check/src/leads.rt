@@ -1,6 +1,6 @@
 ghost use Rattle.std.specs.Prelude.{◌≡◌, ◌<◌, ◌≤◌, ◌↔◌, ◌^◌, ◌++◌, ◌∷◌, [], IfOk, IsTrue, length};
 ghost use Rattle.cts_model.specs.timing.Constraints.{IsConstraintOf, count_of};
-ghost use Rattle.cts_model.specs.timing.Leads.{IsLedBy, IsTight, ShowsEarliest, depth_of, lead_at};
+ghost use Rattle.cts_model.specs.timing.Leads.{IsLedBy, IsTight, depth_of, lead_at};
 ghost use Rattle.cts_model.specs.placement.Points.{IsBelow};
 ghost use Rattle.cts_model.specs.report.ReportBounds.{IsSmallLead, LeadsAmong};
 ghost use Rattle.cts_model.specs.timing.Schedules.{arrival_of};

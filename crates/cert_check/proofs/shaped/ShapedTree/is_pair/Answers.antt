@@ -27,9 +27,9 @@ returns-then-has_below-2 c =
                 (sym w.value-is ∙ c.if-has_below-2.true);
             value = value.0 holds;
           }
-          | else-first-second v ↦ absurd (grind (arith, common_steps, v.value-is, w.if-has_below.true, v.if-first-second.false))
+          | else-first-second v ↦ absurd (grind (arith, common_steps))
         ]
-        | else-has_below w ↦ absurd (grind (arith, common_steps, w.value-is, w.if-has_below.false, c.if-has_below-2.true))
+        | else-has_below w ↦ absurd (grind (arith, common_steps))
       ],
       λ shown. value.1 shown.value,
     )
