@@ -70,11 +70,12 @@ impl Judge<'_> {
 fn pairs_of(alloc: Global, constraints: &[Constraint]) -> Result<Vec<(u32, u32)>, NoMemory>
     ensures { IfOk result (λ pairs. pairs.items ≡ map pair_of constraints.now) }
 {
-    let mut pairs = Vec::new(alloc);
-    for constraint in constraints {
-        pairs.push(pair_of(*constraint))?;
-    }
-    Ok(pairs)
+    Ok(
+        constraints
+            .iter()
+            .map(|constraint| pair_of(*constraint))
+            .collect(alloc)?,
+    )
 }
 
 /// The register that launches along a constraint's paths, and the one that captures.
