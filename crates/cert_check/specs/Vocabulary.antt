@@ -10,7 +10,7 @@ pub use Rattle.cert_check.specs.Judged.{Decides, Judges, JudgesOnce}
 pub use Rattle.cert_check.specs.JudgedReports.{Drawn, Earliest, GivenPath, HasPaths, HasReach, HasSlacks, JudgedTree, LongEnough, Meets, OfCircuit, Shaped, Skewed, Spares, Together, tree_of}
 pub use Rattle.cert_check.specs.ReachParts.{IsMergeShown, IsReachOver, IsSourceShown}
 pub use Rattle.cert_check.specs.SmallSinks.{IsSmallSink}
-pub use Rattle.cert_check.specs.TightLeads.{FitsLeads, IsTested, tight_constraints}
+pub use Rattle.cert_check.specs.TightLeads.{FitsLeads, IsTested, constraint_of, tight_constraints}
 pub use Rattle.cert_check.specs.Verdicts.{IsVerdict, IsVerdictBy}
 pub use Rattle.cert_check.specs.WalkedPaths.{LeadsTo, delay_by, gate_delay_by, through_by}
 pub use Rattle.cert_check.specs.declared.verdict.Reason.TheVariants.{BelowFloor, CycleBroken, CycleValue, NotLeast, NotOfCircuit, PathBroken, ScheduleMisses, SkewDiffers, SlackDiffers, TooShort, Total, TreeShape, Unshown, WireSum}

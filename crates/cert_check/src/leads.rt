@@ -1,11 +1,11 @@
-ghost use Rattle.std.specs.Prelude.{◌≡◌, ◌<◌, ◌≤◌, ◌↔◌, ◌^◌, ◌++◌, ◌∷◌, [], IfOk, IsTrue, length};
+ghost use Rattle.std.specs.Prelude.{◌≡◌, ◌<◌, ◌≤◌, ◌↔◌, ◌^◌, ◌∷◌, [], IfOk, IsTrue, length};
 ghost use Rattle.cts_model.specs.timing.Constraints.{IsConstraintOf, count_of};
 ghost use Rattle.cts_model.specs.timing.Leads.{IsLedBy, IsTight, depth_of, lead_at};
 ghost use Rattle.cts_model.specs.placement.Points.{IsBelow};
 ghost use Rattle.cts_model.specs.report.ReportBounds.{IsSmallLead, LeadsAmong};
 ghost use Rattle.cts_model.specs.timing.Schedules.{arrival_of};
 ghost use Rattle.cts_model.specs.declared.report.Version.TheVariants.{Second};
-ghost use Rattle.cert_check.specs.Vocabulary.{Earliest, HasPaths, FitsLeads, IsTested, tight_constraints, NotLeast, Judges};
+ghost use Rattle.cert_check.specs.Vocabulary.{Earliest, HasPaths, FitsLeads, IsTested, constraint_of, tight_constraints, NotLeast, Judges};
 
 use crate::down::are_same;
 use crate::judge::Judge;
@@ -116,24 +116,21 @@ impl Judge<'_> {
 fn tight_constraints(alloc: Global, leads: &[Lead]) -> Result<Vec<Constraint>, NoMemory>
     ensures { IfOk result (λ constraints. constraints.items ≡ tight_constraints leads.now) }
 {
-    let mut constraints = Vec::new(alloc);
-    for lead in leads {
-        push_constraint(&mut constraints, *lead)?;
-    }
-    Ok(constraints)
+    Ok(
+        leads
+            .iter()
+            .filter_map(|lead| constraint_of(*lead))
+            .collect(alloc)?,
+    )
 }
 
-// Puts a lead's constraint last, if it has one.
-fn push_constraint(constraints: &mut Vec<Constraint>, lead: Lead) -> Result<(), NoMemory>
-    ensures { IfOk result (λ done. constraints.new.items
-        ≡ constraints.old.items ++ tight_constraints (lead ∷ [])) }
+// The constraint of a lead, if it has one.
+fn constraint_of(lead: Lead) -> Option<Constraint>
+    ensures { result ≡ constraint_of lead }
 {
     match lead {
-        Lead::Zero => Ok(()),
-        Lead::Tight { constraint, .. } => {
-            constraints.push(constraint)?;
-            Ok(())
-        }
+        Lead::Zero => None,
+        Lead::Tight { constraint, .. } => Some(constraint),
     }
 }
 
