@@ -1,5 +1,4 @@
 ghost use Rattle.std.specs.Prelude.{◌≡◌, ◌<◌, ◌↔◌, All, IsTrue, length};
-ghost use Rattle.cts_model.specs.netlist.Kinds as kinds;
 ghost use Rattle.cts_model.specs.netlist.Paths.{Captures, IsPath, Launches, Reads};
 ghost use Rattle.cert_check.specs.Vocabulary.{LeadsTo};
 
@@ -48,8 +47,9 @@ impl ShownPath<'_> {
         ensures { IsTrue result ↔ Launches self.now.circuit.now self.now.from number }
     {
         let register = self.from as usize;
-        if is_host(self.circuit.register_signal(register).kind) {
-            is_input(item_at(self.circuit.signals.as_slice(), number as usize).kind)
+        if matches!(self.circuit.register_signal(register).kind, Kind::Host) {
+            let signal = item_at(self.circuit.signals.as_slice(), number as usize);
+            matches!(signal.kind, Kind::Input)
         } else {
             *item_at(self.circuit.registers.as_slice(), register) == number
         }
@@ -63,18 +63,4 @@ fn reads(circuit: &Circuit, gate: u32, read: u32) -> bool
 {
     let signal = item_at(circuit.signals.as_slice(), gate as usize);
     signal.kind.is_gate() && signal.fan_in.as_slice().contains(&read)
-}
-
-// Whether a kind is the host.
-fn is_host(kind: Kind) -> bool
-    ensures { result ≡ kinds.is_host kind }
-{
-    matches!(kind, Kind::Host)
-}
-
-// Whether a kind is a primary input.
-fn is_input(kind: Kind) -> bool
-    ensures { result ≡ kinds.is_input kind }
-{
-    matches!(kind, Kind::Input)
 }
