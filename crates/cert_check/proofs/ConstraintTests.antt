@@ -5,22 +5,26 @@ use Rattle.cts_model.specs.timing.PairLists.{IsSmallPair}
 use Rattle.cert_check.proofs.GivenLemmas.{given_by}
 
 -- the registers of a pair are those of its constraint
-pair_among : (registers : ℕ) (setup : Bool) (tail head : ℕ) (weight : ℤ) → tail < registers
+pair_either : (registers : ℕ) (setup : Bool) (tail head : ℕ) (weight : ℤ) → tail < registers
     → head < registers
     → ((pair_of (record { setup = setup; tail = tail; head = head; weight = weight })).0
     < registers) × ((pair_of
     (record { setup = setup; tail = tail; head = head; weight = weight })).1 < registers)
-pair_among registers true tail head weight low high = (low, high)
-pair_among registers false tail head weight low high = (high, low)
+pair_either registers true tail head weight low high = (low, high)
+pair_either registers false tail head weight low high = (high, low)
+
+pub pair_among : (registers : ℕ) (constraint : Constraint)
+    → IsBetweenRegisters registers constraint
+    → ((pair_of constraint).0 < registers) × ((pair_of constraint).1 < registers)
+pair_among registers constraint among = pair_either registers constraint.setup constraint.tail
+    constraint.head constraint.weight among.tail among.head
 
 pub pairs_among : (registers : ℕ) (constraints : List Constraint)
     → All (IsBetweenRegisters registers) constraints
     → All (λ (pair : ℕ × ℕ). (pair.0 < registers) × (pair.1 < registers)) (map pair_of constraints)
 pairs_among registers constraints among =
     All-map (λ (pair : ℕ × ℕ). (pair.0 < registers) × (pair.1 < registers)) pair_of constraints
-    (λ place d within. pair_among registers (get_or constraints place d).setup
-    (get_or constraints place d).tail (get_or constraints place d).head
-    (get_or constraints place d).weight (among place d within).tail (among place d within).head)
+    (λ place d within. pair_among registers (get_or constraints place d) (among place d within))
 
 -- the delays at the place of a constraint are those of its pair
 joined_here : (circuit : Circuit) (tech : Tech) (constraints : List Constraint)

@@ -1,5 +1,5 @@
 -- Wires from the source down, as they are handed from each node's parent to the node.
-use Rattle.cert_check.proofs.Vocabulary.{◌≡◌, ◌≢◌, ℕ, zero, suc, ◌<◌, ◌≤◌, ◌+◌, ◌*◌, ◌^◌, ℤ, pos, ◌+ℤ◌, List, length, get_or, inl, inr, sym, ap, subst, ◌∙◌, arith, slice_set, cases_lt, cases_eq, ints, get_or-set_same, get_or-set_other, length-set, All-set, Merge, AreWiresDown, IsBelow, number_at, IsParent, IsTopology, source_of, has_parent, one_parent, parent_above, parent_stands}
+use Rattle.cert_check.proofs.Vocabulary.{◌≡◌, ◌≢◌, ℕ, zero, suc, ◌<◌, ◌≤◌, ◌+◌, ◌*◌, ◌^◌, ℤ, pos, ◌+ℤ◌, List, length, get_or, inl, inr, sym, ap, subst, ◌∙◌, arith, slice_set, to_z, of_z, w128, get_or_default, cases_lt, cases_eq, ints, get_or-set_same, get_or-set_other, length-set, All-set, Merge, AreWiresDown, IsBelow, number_at, IsParent, IsTopology, source_of, has_parent, one_parent, parent_above, parent_stands}
 use Rattle.std.specs.List.{All}
 
 -- the wires down to the source and to the last so many nodes with an edge are known
@@ -47,6 +47,28 @@ module _ {sinks : ℕ} {merges : List Merge} (topology : IsTopology sinks merges
 
     stands : up ≤ source_of sinks
     stands = parent_stands topology node up is
+
+    -- the wire down to the parent is small, as it is read
+    pub read_small : (read : ℤ) → read ≡ get_or wires up read → done ≤ 9998 → IsBelow (10 ^ 36) read
+    read_small read is few = subst (IsBelow (10 ^ 36)) (sym is)
+        (handed_small wires done handed few up read
+        (omega (arith, handed.all, stands, topology.all)))
+
+    -- and so the code adds it as it is
+    pub sum_kept : (read sum : ℤ) → read ≡ get_or wires up read → done ≤ 9998
+        → sum ≡ to_z w128 (of_z w128 read) +ℤ to_z w128 (of_z w128 (number_at lengths node))
+        → to_z w128 (of_z w128 sum) ≡ wire
+    sum_kept read sum is few adds =
+        let found = is ∙ get_or_default wires up read (pos 0)
+        (omega (arith, handed.all, stands, topology.all)) in
+        omega (
+          arith,
+          ints,
+          adds,
+          found,
+          read_small read is few,
+          small node (pos 0) (omega (arith, next)),
+        )
 
     wire_small : IsBelow (10 ^ 32 * (done + 1 + 1)) wire
     wire_small = higher (10 ^ 32 * (done + 1) + 10 ^ 32) (10 ^ 32 * (done + 1 + 1)) wire

@@ -1,6 +1,6 @@
 -- Judgements one after the other: what is left where all before hold, and that all hold where a
 -- report is shown.
-use Rattle.cert_check.proofs.Vocabulary.{◌≡◌, ℕ, ap, inl, inr, refl, IsErrAnd, Result, Ok, Err, Problem, Report, AtEach, IsShown, IsShownTiming, IsShownTree, sinks_in, source_in, Reason, Stop, At, NoMemory, Shown, Not, Decides, Judged, JudgedOnce, Judges, JudgesOnce, JudgedPeriod, JudgedTree, IsVerdict}
+use Rattle.cert_check.proofs.Vocabulary.{◌≡◌, ◌⊎◌, ℕ, ap, inl, inr, refl, IsErrAnd, Result, Ok, Err, Problem, Report, AtEach, IsShown, IsShownTiming, IsShownTree, sinks_in, source_in, Reason, Stop, At, NoMemory, Shown, Not, Decides, Judged, JudgedOnce, Judges, JudgesOnce, JudgedTree, IsVerdict}
 use Rattle.cert_check.specs.declared.judge.Judge.{Judge}
 use Rattle.cert_check.specs.declared.verdict.Verdict.{Verdict}
 use Rattle.cert_check.proofs.FirstPlaces.{passed_on}
@@ -46,26 +46,11 @@ module _ {Holds : Type 0} {reason : Reason} {verdict : Verdict} {Next : Type 0} 
   once_holds (inl (fails, is)) shown = absurd (not_shown is shown)
   once_holds (inr (holds, next)) shown = (holds, next)
 
--- what is decided later is decided where all before holds
-pub decides_after : {T : Type 0} (Later Sooner : Verdict → Type 0) (result : Result T Stop)
-    → ((verdict : Verdict) → Later verdict → Sooner verdict) → Decides Later result
-    → Decides Sooner result
-decides_after Later Sooner (Ok done) after decided = after Shown decided
-decides_after Later Sooner (Err (At reason)) after decided = after (Not reason) decided
-decides_after Later Sooner (Err NoMemory) after decided = tt
-
 -- what is shown has no reason that another verdict hasn't
 pub kept_shown : (other : Verdict) (why : Reason) → Shown ≡ Not why → other ≡ Not why
 kept_shown other why is = absurd (not_shown is refl)
 
--- what is judged after the period, and after the tree
-pub period_then : (judge : Judge) {verdict other : Verdict} {Next More : Type 0}
-    → ((why : Reason) → verdict ≡ Not why → other ≡ Not why)
-    → JudgedPeriod judge verdict Next → (Next → More) → JudgedPeriod judge other More
-period_then judge kept judged next =
-    once_then kept judged (λ joined. judged_then kept joined (λ given. judged_then kept given
-    (λ value. once_then kept value (λ meets. judged_then kept meets next))))
-
+-- what is judged after the tree
 pub tree_then : (judge : Judge) {verdict other : Verdict} {Next More : Type 0}
     → ((why : Reason) → verdict ≡ Not why → other ≡ Not why)
     → JudgedTree judge verdict Next → (Next → More) → JudgedTree judge other More
@@ -107,21 +92,31 @@ last_once Holds reason IsVerdict (Err NoMemory) none after = tt
 
 -- what stops a judgement decides
 pub stops_once : (Holds : Type 0) (reason : Reason) (Next : Verdict → Type 0)
-    (IsVerdict : Verdict → Type 0) (stop : Stop) → JudgesOnce Holds reason {T = Unit {0}} (Err stop)
+    (IsVerdict : Verdict → Type 0) (result : Result (Unit {0}) Stop) (stop : Stop)
+    → IsErrAnd result (λ passed. passed ≡ stop) → JudgesOnce Holds reason {T = Unit {0}} (Err stop)
     → ((verdict : Verdict) → JudgedOnce Holds reason verdict (Next verdict) → IsVerdict verdict)
-    → Decides IsVerdict {T = Unit {0}} (Err stop)
-stops_once Holds reason Next IsVerdict (At given) (fails, is) after =
-    after (Not given) (inl (fails, ap Not is))
-stops_once Holds reason Next IsVerdict NoMemory none after = tt
+    → Decides IsVerdict result
+stops_once Holds reason Next IsVerdict result (At given) is (fails, same) after =
+    passed_on (Decides IsVerdict) result (At given) is
+    (after (Not given) (inl (fails, ap Not same)))
+stops_once Holds reason Next IsVerdict result NoMemory is none after =
+    passed_on (Decides IsVerdict) result NoMemory is tt
 
 pub stops_places : (places : ℕ) (Holds : ℕ → Type 0) (reason : ℕ → Reason)
-    (Next : Verdict → Type 0) (IsVerdict : Verdict → Type 0) (stop : Stop)
+    (Next : Verdict → Type 0) (IsVerdict : Verdict → Type 0) (result : Result (Unit {0}) Stop)
+    (stop : Stop) → IsErrAnd result (λ passed. passed ≡ stop)
     → Judges places Holds reason {T = Unit {0}} (Err stop)
     → ((verdict : Verdict) → Judged places Holds reason verdict (Next verdict)
-    → IsVerdict verdict) → Decides IsVerdict {T = Unit {0}} (Err stop)
-stops_places places Holds reason Next IsVerdict (At given) (place, first, is) after =
-    after (Not given) (inl (place, first, ap Not is))
-stops_places places Holds reason Next IsVerdict NoMemory none after = tt
+    → IsVerdict verdict) → Decides IsVerdict result
+stops_places places Holds reason Next IsVerdict result (At given) is (place, first, same) after =
+    passed_on (Decides IsVerdict) result (At given) is
+    (after (Not given) (inl (place, first, ap Not same)))
+stops_places places Holds reason Next IsVerdict result NoMemory is none after =
+    passed_on (Decides IsVerdict) result NoMemory is tt
+
+-- what holds passes to what is judged next
+pub passed : {Fails Holds Next : Type 0} → Holds → Next → Fails ⊎ (Holds × Next)
+passed holds next = inr (holds, next)
 
 module _ (problem : Problem) (report : Report) {verdict : Verdict}
     (judged : IsVerdict problem report verdict) where

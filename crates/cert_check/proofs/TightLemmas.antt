@@ -1,5 +1,7 @@
 -- The constraints of tight leads, lead by lead.
 use Rattle.cert_check.proofs.Vocabulary.{◌≡◌, ◌<◌, ◌+◌, ◌↔◌, ℕ, zero, suc, Bool, IsTrue, List, [], ◌∷◌, ◌++◌, All, length, take, get_or, Some, refl, ap, subst, ◌∙◌, arith, IfSome, slice_get, take_more, All-cons, All-head, All-nil, All-tail, Circuit, Constraint, Zero, Tight, Tech, IsConstraintOf, IsOfCircuit, IsBetweenRegisters, LeadsAmong, IsTested, tight_constraints}
+use Rattle.std.proofs.lemmas.List.Elements.{filter_map-append}
+use Rattle.cert_check.specs.TightLeads.{constraint_of}
 use Rattle.cts_model.specs.declared.schedule.Lead.{Lead}
 
 -- how many constraints the leads before a register have
@@ -7,19 +9,12 @@ abbrev pub tight_before : List Lead → (register : ℕ) → ℕ
 tight_before leads register = length (tight_constraints (take register leads))
 
 -- one lead more
-tight_append : (leads more : List Lead)
-    → tight_constraints (leads ++ more) ≡ tight_constraints leads ++ tight_constraints more
-tight_append [] more = refl
-tight_append (Zero ∷ leads) more = tight_append leads more
-tight_append (Tight depth constraint ∷ leads) more =
-    ap (λ constraints. constraint ∷ constraints) (tight_append leads more)
-
 pub tight_more : (leads : List Lead) (register : ℕ) (default : Lead) → register < length leads
     → tight_constraints (take (register + 1) leads)
     ≡ tight_constraints (take register leads)
     ++ tight_constraints (get_or leads register default ∷ [])
 tight_more leads register default low = ap tight_constraints (take_more leads register default low)
-    ∙ tight_append (take register leads) (get_or leads register default ∷ [])
+    ∙ filter_map-append constraint_of (take register leads) (get_or leads register default ∷ [])
 
 -- the constraint of a tight lead stands where those before end
 tight_here : (leads : List Lead) (register depth : ℕ) (constraint : Constraint)

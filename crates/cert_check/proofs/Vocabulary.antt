@@ -42,7 +42,7 @@ pub use Rattle.cert_check.specs.DrawnParts.{Share, greatest_common, least_common
 pub use Rattle.cert_check.specs.EmbeddingParts.{IsOfUnmarked, JoinsAt, StandsAt}
 pub use Rattle.cert_check.specs.GivenConstraints.{pair_of, weight_by}
 pub use Rattle.cert_check.specs.Judged.{FailsFirst, Judges, Decides, Judged, JudgedOnce, JudgesOnce}
-pub use Rattle.cert_check.specs.JudgedReports.{JudgedPeriod, JudgedTree, JudgedRest, Shaped, Meets, Earliest, GivenPath, Spares, HasReach, tree_of, OfCircuit, Together, LongEnough, Skewed, Drawn}
+pub use Rattle.cert_check.specs.JudgedReports.{JudgedTree, Shaped, Meets, Earliest, GivenPath, Spares, HasReach, tree_of, OfCircuit, Together, LongEnough, Skewed, Drawn}
 pub use Rattle.cert_check.specs.Parents.{AreParents, parent_at}
 pub use Rattle.cert_check.specs.ReachParts.{IsLevel, IsMergeShown, IsReachOver, IsSourceShown}
 pub use Rattle.cert_check.specs.SmallSinks.{IsSmallSink}

@@ -116,9 +116,9 @@ drawn_by_way from to long points some few ends way = record {
   begins = ends.begins;
   ends = ends.ends;
   straight = way.free.straight;
-  sum = way.long_enough.sum;
+  sum = way.sum;
   apart = way.free.apart;
-  no_length = λ none. one_point points ends.begins (way.long_enough.alone none);
+  no_length = λ none. one_point points ends.begins (way.alone none);
 }
   where
     one_point : (points : List Point) → slice_get points 0 ≡ Some from → length points ≡ 1

@@ -30,11 +30,8 @@ pub record IsFree (points : List Point) : Type 0 where
   pub straight : All IsStraight (pieces points)
   pub apart : AllPairs AreApart (pieces points)
 
--- it is that long, and a point alone where that is 0
-pub record IsLong (long : ℤ) (points : List Point) : Type 0 where
-  pub sum : total (pieces points) ≡ long
-  pub alone : long ≡ pos 0 → length points ≡ 1
-
+-- it is that long besides, and a point alone where that is 0
 pub record IsWay (long : ℤ) (points : List Point) : Type 0 where
   pub free : IsFree points
-  pub long_enough : IsLong long points
+  pub sum : total (pieces points) ≡ long
+  pub alone : long ≡ pos 0 → length points ≡ 1

@@ -10,7 +10,7 @@ use Rattle.cert_check.specs.declared.judge.Judge.{Judge}
 use Rattle.cert_check.specs.declared.verdict.Reason.TheVariants.{TooShort, WireSum}
 use Rattle.cert_check.specs.declared.verdict.Verdict.{Verdict}
 use Rattle.cert_check.specs.Judged.{Judged}
-use Rattle.cert_check.specs.Verdicts.{PeriodJudged, ReachesJudged, RestJudged}
+use Rattle.cert_check.specs.Verdicts.{ReachesJudged}
 
 -- the slacks of the registers, as the report's schedule has the arrivals
 abbrev pub HasSlacks : Judge → List Slack → Type 0
@@ -72,17 +72,9 @@ abbrev pub HasReach : Judge → (node : ℕ) → Type 0
 HasReach judge = IsReachShown judge.sinks.now judge.report.now.topology.merges judge.source
     (tree_of judge) (number_at judge.report.now.tree.reach) judge.report.now.shows
 
--- the period, what shows it, and the schedule
-abbrev pub JudgedPeriod : Judge → Verdict → (Next : Type 0) → Type 0
-JudgedPeriod judge = PeriodJudged judge.problem.now judge.report.now judge.cycle.now
-
 -- the edges of a tree whose nodes are judged, its skews, its reaches and its wire
 abbrev pub JudgedTree : Judge → Verdict → (Next : Type 0) → Type 0
 JudgedTree judge verdict Next =
     Judged (length judge.report.now.tree.length) (LongEnough judge) TooShort verdict
     (Judged (length judge.report.now.tree.length) (Drawn judge) WireSum verdict
     (ReachesJudged judge.report.now judge.sinks.now judge.source verdict Next))
-
--- the slacks, the paths and the leads
-abbrev pub JudgedRest : Judge → Verdict → (Next : Type 0) → Type 0
-JudgedRest judge = RestJudged judge.problem.now judge.report.now judge.cycle.now

@@ -11,3 +11,4 @@ pub mod Parents
 pub mod DrawnParts
 pub mod EmbeddingParts
 pub mod WalkedPaths
+pub mod Vocabulary

@@ -1,6 +1,6 @@
 -- What the judgement of reaches compares in one tree. Boese and Kahng 1992;
 -- Chao and others 1992.
-use Rattle.std.specs.Prelude.{◌≡◌, ◌≤◌, ◌+◌, ℕ, ℤ, ◌-ℤ◌, List, Contains, length, IfSome, IsSomeAnd, slice_get}
+use Rattle.std.specs.Prelude.{◌≡◌, ◌+◌, ℕ, ℤ, ◌-ℤ◌, List, length, IfSome, IsSomeAnd, slice_get}
 use Rattle.cts_model.specs.declared.place.Sink.{Sink}
 use Rattle.cts_model.specs.declared.place.Uv.{Uv}
 use Rattle.cts_model.specs.declared.report.Report.{Report}
@@ -37,9 +37,3 @@ pub record IsSourceShown (sinks : List Sink) (source : Uv) (report : Report) : T
   pub shown : IsSomeAnd (slice_get report.shows (length report.topology.merges))
       (ShowsSource sinks source (number_at report.tree.reach (root_of (length sinks)))
       (number_at report.tree.reach (source_of (length sinks))))
-
--- two sinks, in order, are among the numbered ones
-pub record AreBelow (numbers : List ℕ) (first second : ℕ) : Type 0 where
-  pub ordered : first ≤ second
-  pub first_below : Contains numbers first
-  pub second_below : Contains numbers second

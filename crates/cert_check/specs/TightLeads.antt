@@ -1,5 +1,5 @@
 -- The constraints of tight leads.
-use Rattle.std.specs.Prelude.{◌≡◌, ◌↔◌, ℕ, Bool, IsTrue, List, [], ◌∷◌}
+use Rattle.std.specs.Prelude.{◌≡◌, ◌↔◌, ℕ, Bool, IsTrue, List, filter_map, Option, None, Some}
 use Rattle.cts_model.specs.declared.circuit.Circuit.{Circuit}
 use Rattle.cts_model.specs.declared.constraint.Constraint.{Constraint}
 use Rattle.cts_model.specs.declared.schedule.Lead.{Lead}
@@ -8,11 +8,14 @@ use Rattle.cts_model.specs.declared.tech.Tech.{Tech}
 use Rattle.cts_model.specs.report.ReportBounds.{HasSmallWeight, IsBetweenRegisters}
 use Rattle.cts_model.specs.timing.Constraints.{IsConstraintOf}
 
+-- the constraint of a lead, if it has one
+abbrev pub constraint_of : Lead → Option Constraint
+constraint_of Zero = None
+constraint_of (Tight depth constraint) = Some constraint
+
 -- the constraints of those leads that have one
 abbrev pub tight_constraints : List Lead → List Constraint
-tight_constraints [] = []
-tight_constraints (Zero ∷ leads) = tight_constraints leads
-tight_constraints (Tight depth constraint ∷ leads) = constraint ∷ tight_constraints leads
+tight_constraints leads = filter_map constraint_of leads
 
 -- the test says whether the lead's constraint is one of the circuit
 abbrev pub IsTested : Circuit → Tech → Lead → (given : Bool) → Type 0

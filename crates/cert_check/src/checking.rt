@@ -1,21 +1,15 @@
-ghost use Rattle.std.specs.Prelude.{◌≡◌, ◌↔◌, IfOk, OnOk};
+ghost use Rattle.std.specs.Prelude.{◌≡◌, ◌↔◌, IfOk};
 ghost use Rattle.cts_model.specs.report.ReportBounds.{IsOfSize, IsWithinBounds};
 ghost use Rattle.cts_model.specs.report.SaidReports.{ShowsWhatItSays};
 ghost use Rattle.cts_model.specs.report.Shown.{IsShown, ShowsLeast, cycle_of};
-ghost use Rattle.gate_order.specs.LevelParts.{IsLevelsOf};
-ghost use Rattle.cert_check.specs.declared.verdict.Verdict.{Verdict};
-ghost use Rattle.cert_check.specs.Judged.{Decides};
-ghost use Rattle.cert_check.specs.JudgedReports.{HasPaths, HasSlacks, JudgedPeriod, JudgedRest, JudgedTree};
-ghost use Rattle.cert_check.specs.Verdicts.{IsVerdict, IsVerdictBy};
+ghost use Rattle.cert_check.specs.Vocabulary.{IsLevelsOf, Verdict, Decides, HasPaths, HasSlacks, JudgedTree, IsVerdict, IsVerdictBy};
 
 use crate::Verdict;
 use crate::judge::Judge;
-use crate::parents::parents_of;
-use crate::shaped::ShapedTree;
-use crate::sinks::{sinks_of, source_of};
+use crate::shaped::{ShapedTree, parents_of};
 use crate::verdict::Stop;
 use cts_base::NoMemory;
-use cts_model::{Constraint, PeriodShow, Problem, Report, Slack, laws};
+use cts_model::{Constraint, Grid, PeriodShow, Problem, Report, Slack, laws};
 use gate_order::{LevelFault, Levels, levels};
 use path_delays::Paths;
 use std::alloc::Global;
@@ -57,13 +51,18 @@ fn judge_report(alloc: Global, problem: &Problem, report: &Report) -> Result<(),
     ensures { Decides (IsVerdict problem.now report.now) result }
 {
     let levels = levels_of(alloc, problem)?;
-    let sinks = sinks_of(alloc, problem, report)?;
+    let grid = Grid {
+        period: report.period,
+        tech: &problem.tech,
+    };
+    let places = problem.places.registers.as_slice();
+    let sinks = grid.sinks(alloc, places, report.schedule.at.as_slice())?;
     let judge = Judge {
         problem,
         report,
         cycle: cycle_of(&report.shown),
         sinks: sinks.as_slice(),
-        source: source_of(problem, report),
+        source: grid.rotated(problem.places.source),
     };
     let slacks = slacks(
         alloc,
@@ -84,35 +83,21 @@ fn judge_all(alloc: Global, judge: &Judge, paths: &mut Paths, slacks: &[Slack]) 
     ensures { Decides (IsVerdictBy judge.now.problem.now judge.now.report.now judge.now.cycle.now
         judge.now.sinks.now judge.now.source) result }
 {
-    judge_period(alloc, judge, paths, slacks)?;
-    judge.judge_shape(alloc)?;
-    let parents = parents_of(alloc, &judge.merges())?;
-    let tree = ShapedTree {
-        judge: *judge,
-        parents,
-    };
-    judge_tree(alloc, &tree)?;
-    judge_rest(alloc, judge, paths, slacks)
-}
-
-// The period, what shows it, and the schedule.
-fn judge_period(
-    alloc: Global,
-    judge: &Judge,
-    paths: &mut Paths,
-    slacks: &[Slack],
-) -> Result<(), Stop>
-    requires paths { HasPaths judge.now paths.old }
-    requires slacks { HasSlacks judge.now slacks.now }
-    ensures decides { Decides
-        (λ verdict. JudgedPeriod judge.now verdict (verdict ≡ Verdict.Shown)) result }
-    ensures paths { OnOk result (HasPaths judge.now paths.new) }
-{
     judge.judge_floor()?;
     judge.judge_joins(alloc)?;
     judge.judge_constraints(alloc, paths)?;
     judge.judge_value()?;
-    judge.judge_schedule(slacks)
+    judge.judge_schedule(slacks)?;
+    judge.judge_shape(alloc)?;
+    let merges = judge.report.topology.merges.as_slice();
+    let tree = ShapedTree {
+        judge: *judge,
+        parents: parents_of(alloc, judge.sinks.len(), merges)?,
+    };
+    judge_tree(alloc, &tree)?;
+    judge.judge_slacks(slacks)?;
+    judge.judge_paths()?;
+    judge.judge_leads(alloc, paths)
 }
 
 // The edges of a tree whose nodes are judged, its skews, its reaches and its wire.
@@ -125,18 +110,6 @@ fn judge_tree(alloc: Global, tree: &ShapedTree) -> Result<(), Stop>
     tree.judge_skews(alloc)?;
     tree.judge_reaches()?;
     tree.judge.judge_total()
-}
-
-// The slacks, the paths and the leads.
-fn judge_rest(alloc: Global, judge: &Judge, paths: &mut Paths, slacks: &[Slack]) -> Result<(), Stop>
-    requires paths { HasPaths judge.now paths.old }
-    requires slacks { HasSlacks judge.now slacks.now }
-    ensures { Decides
-        (λ verdict. JudgedRest judge.now verdict (verdict ≡ Verdict.Shown)) result }
-{
-    judge.judge_slacks(slacks)?;
-    judge.judge_paths()?;
-    judge.judge_leads(alloc, paths)
 }
 
 // The gates of a problem, each after those that it reads.

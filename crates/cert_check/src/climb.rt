@@ -2,26 +2,12 @@
 
 ghost use Rattle.std.specs.Prelude.{◌<◌, ◌+◌, ◌*◌, ◌↔◌, IsTrue, Contains, length};
 ghost use Rattle.cts_model.specs.tree.Topologies.{IsParent, numbers_below};
-ghost use Rattle.cert_check.specs.ReachParts.{AreBelow};
 
 use crate::shaped::ShapedTree;
 
 impl ShapedTree<'_> {
-    /// Whether two sinks are at or below a node, in order.
-    pub(crate) fn has_both_below(&self, node: usize, first: u32, second: u32) -> bool
-        requires node { node + 1 < 2 * length self.now.judge.sinks.now }
-        requires first { first < length self.now.judge.sinks.now }
-        requires second { second < length self.now.judge.sinks.now }
-        ensures { IsTrue result ↔ AreBelow (numbers_below (length self.now.judge.sinks.now)
-            self.now.judge.report.now.topology.merges node) first second }
-    {
-        first <= second
-            && self.has_below(node, first as usize)
-            && self.has_below(node, second as usize)
-    }
-
-    // Whether a sink is at or below a node: whether the climb from it comes to that node.
-    fn has_below(&self, node: usize, register: usize) -> bool
+    /// Whether a sink is at or below a node: whether the climb from it comes to that node.
+    pub(crate) fn has_below(&self, node: usize, register: usize) -> bool
         requires node { node + 1 < 2 * length self.now.judge.sinks.now }
         requires register { register < length self.now.judge.sinks.now }
         ensures { IsTrue result ↔ Contains (numbers_below (length self.now.judge.sinks.now)
@@ -34,7 +20,7 @@ impl ShapedTree<'_> {
         at == node
     }
 
-    // Where the edge down to a node comes from.
+    /// Where the edge down to a node comes from.
     pub(crate) fn parent_of(&self, node: usize) -> usize
         requires { node < length self.now.parents.items }
         ensures parent { IsParent (length self.now.judge.sinks.now)

@@ -1,6 +1,6 @@
-ghost use Rattle.std.specs.Prelude.{◌≡◌, ◌<◌, ◌≤◌, ◌↔◌, All, IsTrue, length};
+ghost use Rattle.std.specs.Prelude.{◌≡◌, ◌<◌, ◌↔◌, All, IsTrue, length};
 ghost use Rattle.cts_model.specs.report.Judgements.{HoldsTogether, next_place};
-ghost use Rattle.cert_check.specs.CyclePlaces.{AreTailsBefore};
+ghost use Rattle.cert_check.specs.Vocabulary.{AreTailsBefore, CycleBroken, Judges, Together};
 
 use crate::item::item_at;
 use crate::judge::Judge;
@@ -9,10 +9,6 @@ use cts_model::Constraint;
 use std::alloc::Global;
 
 impl Judge<'_> {
-    ghost use Rattle.cert_check.specs.declared.verdict.Reason.TheVariants.{CycleBroken};
-    ghost use Rattle.cert_check.specs.Judged.{Judges};
-    ghost use Rattle.cert_check.specs.JudgedReports.{Together};
-
     /// Whether the cycle holds together at each place.
     pub(crate) fn judge_joins(&self, alloc: Global) -> Result<(), Stop>
         ensures { Judges (length self.now.cycle.now) (Together self.now) CycleBroken result }
@@ -32,7 +28,6 @@ impl Judge<'_> {
 // Whether a cycle holds together at a place, by the registers where those before begin.
 fn holds_together(cycle: &[Constraint], place: usize, seen: &[bool]) -> bool
     requires tails { All (λ constraint. constraint.tail < length seen.now) cycle.now }
-    requires few { length cycle.now ≤ 9999 }
     requires place { place < length cycle.now }
     requires seen { AreTailsBefore cycle.now place seen.now }
     ensures { IsTrue result ↔ HoldsTogether cycle.now place }
@@ -44,8 +39,7 @@ fn holds_together(cycle: &[Constraint], place: usize, seen: &[bool]) -> bool
 
 // The place after one in a round of so many.
 fn next_place(places: usize, place: usize) -> usize
-    requires few { places ≤ 9999 }
-    requires place { place < places }
+    requires { place < places }
     ensures next { result ≡ next_place places place }
     ensures within { result < places }
 {

@@ -3,7 +3,7 @@ ghost use Rattle.cts_model.specs.netlist.Kinds.{is_gate, is_valid};
 ghost use Rattle.cts_model.specs.netlist.Paths.{IsGate};
 ghost use Rattle.cts_model.specs.placement.Points.{IsBelow};
 ghost use Rattle.cts_model.specs.table.Tables.{IsWithin};
-ghost use Rattle.cert_check.specs.WalkedPaths.{delay_by, gate_delay_by, through_by};
+ghost use Rattle.cert_check.specs.Vocabulary.{delay_by, gate_delay_by, through_by};
 
 use crate::item::item_at;
 use cts_model::{Circuit, Signal, Tech};

@@ -2,7 +2,7 @@ ghost use Rattle.std.specs.Prelude.{◌≡◌, ◌↔◌, ◌≤◌, ◌*◌, �
 ghost use Rattle.cts_model.specs.tree.DrawnWires.{AreApart, IsDrawn, IsStraight, pieces, total};
 ghost use Rattle.cts_model.specs.placement.Points.{IsPointBelow};
 ghost use Rattle.cts_model.specs.report.ReportBounds.{IsSmallWire};
-ghost use Rattle.cert_check.specs.DrawnParts.{AreEnds, IsFree, IsLong, IsWay, Share, greatest_common, least_common, piece};
+ghost use Rattle.cert_check.specs.Vocabulary.{AreEnds, IsFree, IsWay, Share, greatest_common, least_common, piece};
 
 use cts_model::{Point, Wire, manhattan};
 
@@ -48,7 +48,11 @@ impl Way<'_> {
     {
         match self.points {
             [] => false,
-            [first, more @ ..] => is_free(*first, more) && is_long(*first, more, long),
+            [first, more @ ..] => {
+                is_free(*first, more)
+                    && length_through(*first, more) == long
+                    && (long != 0 || more.is_empty())
+            }
         }
     }
 }
@@ -66,17 +70,6 @@ fn is_free(from: Point, points: &[Point]) -> bool
     ensures { IsTrue result ↔ IsFree (from ∷ points.now) }
 {
     are_straight(from, points) && are_apart(from, points)
-}
-
-// Whether the way from a point through others has that length, and no more points than it has to
-// where that is 0.
-fn is_long(from: Point, points: &[Point], long: i128) -> bool
-    requires few { length points.now ≤ 4 }
-    requires from { IsPointBelow (10 ^ 32) from }
-    requires small { All (IsPointBelow (10 ^ 32)) points.now }
-    ensures { IsTrue result ↔ IsLong long (from ∷ points.now) }
-{
-    length_through(from, points) == long && (long != 0 || points.is_empty())
 }
 
 // Whether the way from a point through others is straight from each to the next.

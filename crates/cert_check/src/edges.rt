@@ -1,17 +1,12 @@
-ghost use Rattle.std.specs.Prelude.{◌<◌, ◌↔◌, ◌^◌, ◌≤ℤ◌, All, IsTrue, length};
-ghost use Rattle.cts_model.specs.tree.Embeddings.{embedding_of};
-ghost use Rattle.cts_model.specs.placement.Points.{IsPointBelow, distance};
-ghost use Rattle.cert_check.specs.JudgedReports.{Drawn, LongEnough};
+ghost use Rattle.std.specs.Prelude.{◌<◌, ◌↔◌, IsTrue, length};
+ghost use Rattle.cert_check.specs.Vocabulary.{Drawn, LongEnough, TooShort, WireSum, Judges};
 
 use crate::drawn::is_drawn;
 use crate::shaped::ShapedTree;
 use crate::verdict::{Reason, Stop};
-use cts_model::{Tree, manhattan};
+use cts_model::manhattan;
 
 impl ShapedTree<'_> {
-    ghost use Rattle.cert_check.specs.declared.verdict.Reason.TheVariants.{TooShort, WireSum};
-    ghost use Rattle.cert_check.specs.Judged.{Judges};
-
     /// Whether each edge is as long as the way between its ends, or longer.
     pub(crate) fn judge_lengths(&self) -> Result<(), Stop>
         ensures { Judges (length self.now.judge.report.now.tree.length)
@@ -30,7 +25,10 @@ impl ShapedTree<'_> {
         requires { edge < length self.now.parents.items }
         ensures { IsTrue result ↔ LongEnough self.now.judge edge }
     {
-        reaches(&self.judge.report.tree, self.parent_of(edge), edge)
+        let tree = &self.judge.report.tree;
+        let places = tree.place.as_slice();
+        let from = places[self.parent_of(edge)];
+        manhattan(from, places[edge]) <= tree.length.as_slice()[edge]
     }
 
     /// Whether the points of each edge are those of a wire of its length between its ends.
@@ -57,17 +55,4 @@ impl ShapedTree<'_> {
         let from = places[self.parent_of(edge)];
         is_drawn(wire, from, places[edge], tree.length.as_slice()[edge])
     }
-}
-
-// Whether the edge from a parent is as long as the way between its ends, or longer.
-fn reaches(tree: &Tree, parent: usize, edge: usize) -> bool
-    requires parent { parent < length tree.now.place }
-    requires node { edge < length tree.now.place }
-    requires edge { edge < length tree.now.length }
-    requires places { All (IsPointBelow (10 ^ 32)) tree.now.place }
-    ensures { IsTrue result ↔ (distance ((embedding_of tree.now).place parent)
-        ((embedding_of tree.now).place edge) ≤ℤ (embedding_of tree.now).length edge) }
-{
-    let places = tree.place.as_slice();
-    manhattan(places[parent], places[edge]) <= tree.length.as_slice()[edge]
 }

@@ -1,15 +1,15 @@
-ghost use Rattle.std.specs.Prelude.{◌≡◌, ◌<◌, ◌≤◌, ◌↔◌, ◌^◌, ◌++◌, ◌∷◌, [], IfOk, IsTrue, length};
+ghost use Rattle.std.specs.Prelude.{◌≡◌, ◌<◌, ◌≤◌, ◌↔◌, ◌^◌, ◌∷◌, [], IfOk, IsTrue, length};
 ghost use Rattle.cts_model.specs.timing.Constraints.{IsConstraintOf, count_of};
-ghost use Rattle.cts_model.specs.timing.Leads.{IsLedBy, IsTight, ShowsEarliest, depth_of, lead_at};
+ghost use Rattle.cts_model.specs.timing.Leads.{IsLedBy, IsTight, depth_of, lead_at};
 ghost use Rattle.cts_model.specs.placement.Points.{IsBelow};
 ghost use Rattle.cts_model.specs.report.ReportBounds.{IsSmallLead, LeadsAmong};
 ghost use Rattle.cts_model.specs.timing.Schedules.{arrival_of};
-ghost use Rattle.cert_check.specs.JudgedReports.{Earliest, HasPaths};
-ghost use Rattle.cert_check.specs.TightLeads.{FitsLeads, IsTested, tight_constraints};
+ghost use Rattle.cts_model.specs.declared.report.Version.TheVariants.{Second};
+ghost use Rattle.cert_check.specs.Vocabulary.{Earliest, HasPaths, FitsLeads, IsTested, constraint_of, tight_constraints, NotLeast, Judges};
 
 use crate::down::are_same;
 use crate::judge::Judge;
-use crate::value::{asked, count_of};
+use crate::period::{asked, count_of};
 use crate::verdict::{Reason, Stop};
 use cts_base::NoMemory;
 use cts_model::{Constraint, Lead};
@@ -17,10 +17,6 @@ use path_delays::Paths;
 use std::alloc::Global;
 
 impl Judge<'_> {
-    ghost use Rattle.cts_model.specs.declared.report.Version.TheVariants.{Second};
-    ghost use Rattle.cert_check.specs.declared.verdict.Reason.TheVariants.{NotLeast};
-    ghost use Rattle.cert_check.specs.Judged.{Judges};
-
     /// Whether, where leads are printed, each arrival is from 0 on and its lead shows that none is
     /// earlier.
     pub(crate) fn judge_leads(&self, alloc: Global, paths: &mut Paths) -> Result<(), Stop>
@@ -54,21 +50,12 @@ impl Judge<'_> {
             (lead_at self.now.report.now.leads register) given }
         ensures { IsTrue result ↔ Earliest self.now register }
     {
-        self.arrival(register) >= 0 && self.shows_earliest(register, given)
-    }
-
-    // Whether a register's lead shows that nothing is earlier.
-    fn shows_earliest(&self, register: usize, given: bool) -> bool
-        requires register { register < length self.now.report.now.leads }
-        requires given { IsTested self.now.problem.now.circuit self.now.problem.now.tech
-            (lead_at self.now.report.now.leads register) given }
-        ensures { IsTrue result ↔ ShowsEarliest (IsConstraintOf self.now.problem.now.circuit
-            self.now.problem.now.tech) self.now.report.now.period self.now.report.now.schedule.at
-            self.now.report.now.leads register (lead_at self.now.report.now.leads register) }
-    {
+        let arrival = self.arrival(register);
         match self.lead(register) {
-            Lead::Zero => self.arrival(register) == 0,
-            Lead::Tight { depth, constraint } => self.is_led(register, depth, &constraint, given),
+            Lead::Zero => arrival == 0,
+            Lead::Tight { depth, constraint } => {
+                arrival >= 0 && self.is_led(register, depth, &constraint, given)
+            }
         }
     }
 
@@ -129,24 +116,21 @@ impl Judge<'_> {
 fn tight_constraints(alloc: Global, leads: &[Lead]) -> Result<Vec<Constraint>, NoMemory>
     ensures { IfOk result (λ constraints. constraints.items ≡ tight_constraints leads.now) }
 {
-    let mut constraints = Vec::new(alloc);
-    for lead in leads {
-        push_constraint(&mut constraints, *lead)?;
-    }
-    Ok(constraints)
+    Ok(
+        leads
+            .iter()
+            .filter_map(|lead| constraint_of(*lead))
+            .collect(alloc)?,
+    )
 }
 
-// Puts a lead's constraint last, if it has one.
-fn push_constraint(constraints: &mut Vec<Constraint>, lead: Lead) -> Result<(), NoMemory>
-    ensures { IfOk result (λ done. constraints.new.items
-        ≡ constraints.old.items ++ tight_constraints (lead ∷ [])) }
+// The constraint of a lead, if it has one.
+fn constraint_of(lead: Lead) -> Option<Constraint>
+    ensures { result ≡ constraint_of lead }
 {
     match lead {
-        Lead::Zero => Ok(()),
-        Lead::Tight { constraint, .. } => {
-            constraints.push(constraint)?;
-            Ok(())
-        }
+        Lead::Zero => None,
+        Lead::Tight { constraint, .. } => Some(constraint),
     }
 }
 

@@ -13,18 +13,14 @@ mod given_path;
 mod item;
 mod judge;
 mod leads;
-mod merges;
 mod of_circuit;
-mod parents;
 mod path;
 mod period;
 mod reaches;
 mod shape;
 mod shaped;
 mod shows;
-mod sinks;
 mod slacks;
-mod value;
 mod verdict;
 
 pub use checking::check;

@@ -3,8 +3,7 @@ ghost use Rattle.cts_model.specs.report.Judgements.{IsOfCircuit};
 ghost use Rattle.cts_model.specs.timing.PairLists.{IsSmallPair};
 ghost use Rattle.cts_model.specs.placement.Points.{IsBelow};
 ghost use Rattle.cts_model.specs.report.ReportBounds.{IsBetweenRegisters};
-ghost use Rattle.path_delays.specs.JoinedPairs.{AreDelaysBetween};
-ghost use Rattle.cert_check.specs.GivenConstraints.{pair_of, weight_by};
+ghost use Rattle.cert_check.specs.Vocabulary.{AreDelaysBetween, pair_of, weight_by, NotOfCircuit, Judges, HasPaths, OfCircuit};
 
 use crate::judge::Judge;
 use crate::verdict::{Reason, Stop};
@@ -14,10 +13,6 @@ use path_delays::Paths;
 use std::alloc::Global;
 
 impl Judge<'_> {
-    ghost use Rattle.cert_check.specs.declared.verdict.Reason.TheVariants.{NotOfCircuit};
-    ghost use Rattle.cert_check.specs.Judged.{Judges};
-    ghost use Rattle.cert_check.specs.JudgedReports.{HasPaths, OfCircuit};
-
     /// Whether the constraint at each place of the cycle is one of the circuit.
     pub(crate) fn judge_constraints(&self, alloc: Global, paths: &mut Paths) -> Result<(), Stop>
         requires { HasPaths self.now paths.old }
@@ -75,15 +70,16 @@ impl Judge<'_> {
 fn pairs_of(alloc: Global, constraints: &[Constraint]) -> Result<Vec<(u32, u32)>, NoMemory>
     ensures { IfOk result (λ pairs. pairs.items ≡ map pair_of constraints.now) }
 {
-    let mut pairs = Vec::new(alloc);
-    for constraint in constraints {
-        pairs.push(pair_of(*constraint))?;
-    }
-    Ok(pairs)
+    Ok(
+        constraints
+            .iter()
+            .map(|constraint| pair_of(*constraint))
+            .collect(alloc)?,
+    )
 }
 
-// The register that launches along a constraint's paths, and the one that captures.
-fn pair_of(constraint: Constraint) -> (u32, u32)
+/// The register that launches along a constraint's paths, and the one that captures.
+pub(crate) fn pair_of(constraint: Constraint) -> (u32, u32)
     ensures { result ≡ pair_of constraint }
 {
     if constraint.setup {

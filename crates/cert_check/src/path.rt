@@ -1,40 +1,59 @@
-ghost use Rattle.std.specs.Prelude.{◌≡◌, ◌<◌, ◌↔◌, All, IsTrue, Some, length, slice_get};
-ghost use Rattle.cts_model.specs.netlist.Kinds as kinds;
+ghost use Rattle.std.specs.Prelude.{◌≡◌, ◌<◌, ◌↔◌, All, IsTrue, length};
 ghost use Rattle.cts_model.specs.netlist.Paths.{Captures, IsPath, Launches, Reads};
-ghost use Rattle.cert_check.specs.WalkedPaths.{LeadsTo};
+ghost use Rattle.cert_check.specs.Vocabulary.{LeadsTo};
 
+use crate::given_path::ShownPath;
 use crate::item::item_at;
 use cts_model::{Circuit, Kind};
 
-/// Whether signals are a path from one register to another.
-pub(crate) fn is_path(circuit: &Circuit, from: u32, to: u32, path: &[u32]) -> bool
-    requires from { from < length circuit.now.registers }
-    requires to { to < length circuit.now.registers }
-    requires path { All (λ number. number < length circuit.now.signals) path.now }
-    ensures { IsTrue result ↔ IsPath circuit.now from to path.now }
-{
-    match path {
-        [] => false,
-        [first, gates @ ..] => {
-            launches(circuit, from, *first) && leads_to(circuit, *first, gates, to)
+impl ShownPath<'_> {
+    /// Whether its signals are a path from the one register to the other.
+    pub(crate) fn is_path(&self) -> bool
+        ensures { IsTrue result
+            ↔ IsPath self.now.circuit.now self.now.from self.now.to self.now.path.now }
+    {
+        match self.path {
+            [] => false,
+            [first, gates @ ..] => self.launches(*first) && self.leads_on(*first, gates),
         }
     }
-}
 
-// Whether gates each read the one before, from a signal on, and a register captures the last.
-fn leads_to(circuit: &Circuit, first: u32, gates: &[u32], to: u32) -> bool
-    requires to { to < length circuit.now.registers }
-    requires gates { All (λ number. number < length circuit.now.signals) gates.now }
-    ensures { IsTrue result ↔ LeadsTo circuit.now first gates.now to }
-{
-    let mut last = first;
-    for gate in gates {
-        if !reads(circuit, *gate, last) {
-            return false;
+    // Whether gates each read the one before, from a signal on, and the register captures the last.
+    fn leads_on(&self, first: u32, gates: &[u32]) -> bool
+        requires { All (λ number. number < length self.now.circuit.now.signals) gates.now }
+        ensures { IsTrue result ↔ LeadsTo self.now.circuit.now first gates.now self.now.to }
+    {
+        let mut last = first;
+        for gate in gates {
+            if !reads(self.circuit, *gate, last) {
+                return false;
+            }
+            last = *gate;
         }
-        last = *gate;
+        self.captures(last)
     }
-    captures(circuit, to, last)
+
+    // Whether the register where it ends captures a signal.
+    fn captures(&self, number: u32) -> bool
+        ensures { IsTrue result ↔ Captures self.now.circuit.now self.now.to number }
+    {
+        let register = self.circuit.register_signal(self.to as usize);
+        register.fan_in.as_slice().contains(&number)
+    }
+
+    // Whether the register where it begins launches a signal.
+    fn launches(&self, number: u32) -> bool
+        requires { number < length self.now.circuit.now.signals }
+        ensures { IsTrue result ↔ Launches self.now.circuit.now self.now.from number }
+    {
+        let register = self.from as usize;
+        if matches!(self.circuit.register_signal(register).kind, Kind::Host) {
+            let signal = item_at(self.circuit.signals.as_slice(), number as usize);
+            matches!(signal.kind, Kind::Input)
+        } else {
+            *item_at(self.circuit.registers.as_slice(), register) == number
+        }
+    }
 }
 
 // Whether a signal is a gate that reads another.
@@ -44,51 +63,4 @@ fn reads(circuit: &Circuit, gate: u32, read: u32) -> bool
 {
     let signal = item_at(circuit.signals.as_slice(), gate as usize);
     signal.kind.is_gate() && signal.fan_in.as_slice().contains(&read)
-}
-
-// Whether a register captures a signal.
-fn captures(circuit: &Circuit, register: u32, number: u32) -> bool
-    requires { register < length circuit.now.registers }
-    ensures { IsTrue result ↔ Captures circuit.now register number }
-{
-    circuit
-        .register_signal(register as usize)
-        .fan_in
-        .as_slice()
-        .contains(&number)
-}
-
-// Whether a register launches a signal.
-fn launches(circuit: &Circuit, register: u32, number: u32) -> bool
-    requires register { register < length circuit.now.registers }
-    requires number { number < length circuit.now.signals }
-    ensures { IsTrue result ↔ Launches circuit.now register number }
-{
-    if is_host(circuit.register_signal(register as usize).kind) {
-        is_input(item_at(circuit.signals.as_slice(), number as usize).kind)
-    } else {
-        is_of_number(circuit, register, number)
-    }
-}
-
-// Whether a kind is the host.
-fn is_host(kind: Kind) -> bool
-    ensures { result ≡ kinds.is_host kind }
-{
-    matches!(kind, Kind::Host)
-}
-
-// Whether a kind is a primary input.
-fn is_input(kind: Kind) -> bool
-    ensures { result ≡ kinds.is_input kind }
-{
-    matches!(kind, Kind::Input)
-}
-
-// Whether a register is the signal of this number.
-fn is_of_number(circuit: &Circuit, register: u32, number: u32) -> bool
-    requires { register < length circuit.now.registers }
-    ensures { IsTrue result ↔ (slice_get circuit.now.registers register ≡ Some number) }
-{
-    circuit.registers.as_slice()[register as usize] == number
 }

@@ -1,23 +1,26 @@
-ghost use Rattle.std.specs.Prelude.{◌↔◌, IsTrue};
+ghost use Rattle.std.specs.Prelude.{◌≡◌, ◌≤◌, ◌↔◌, ◌^◌, IsTrue, All, length, pos, ◌-ℤ◌, ◌*ℤ◌, ◌≤ℤ◌};
+ghost use Rattle.cts_model.specs.timing.Constraints.{count_of};
+ghost use Rattle.cts_model.specs.timing.Cycles.{total_count, total_weight};
 ghost use Rattle.cts_model.specs.report.Judgements.{GivesPeriod, IsFromFloor};
+ghost use Rattle.cts_model.specs.placement.Points.{IsBelow};
+ghost use Rattle.cts_model.specs.report.ReportBounds.{HasSmallWeight};
 ghost use Rattle.cts_model.specs.timing.Schedules.{IsSmallPeriod};
+ghost use Rattle.cert_check.specs.Vocabulary.{BelowFloor, CycleValue, JudgesOnce};
 
+use crate::down::are_same;
 use crate::judge::Judge;
-use crate::value::gives_period;
 use crate::verdict::{Reason, Stop};
 use cts_base::Fraction;
-use cts_model::{Tech, product};
+use cts_model::{Constraint, PeriodShow, product};
 
 impl Judge<'_> {
-    ghost use Rattle.cert_check.specs.declared.verdict.Reason.TheVariants.{BelowFloor, CycleValue};
-    ghost use Rattle.cert_check.specs.Judged.{JudgesOnce};
-
     /// Whether the period isn't below the floor of the delay table.
     pub(crate) fn judge_floor(&self) -> Result<(), Stop>
         ensures { JudgesOnce (IsFromFloor self.now.problem.now.tech self.now.report.now.period)
             BelowFloor result }
     {
-        if is_from_floor(&self.problem.tech, self.report.period) {
+        let period = self.report.period;
+        if product(self.problem.tech.floor, period.den()) <= period.num() {
             Ok(())
         } else {
             Err(Stop::At(Reason::BelowFloor))
@@ -29,18 +32,58 @@ impl Judge<'_> {
         ensures { JudgesOnce (GivesPeriod self.now.problem.now.tech self.now.report.now.period
             self.now.report.now.shown) CycleValue result }
     {
-        if gives_period(&self.problem.tech, self.report.period, &self.report.shown) {
+        if self.gives_period() {
             Ok(())
         } else {
             Err(Stop::At(Reason::CycleValue))
         }
     }
+
+    // Whether what is shown gives the period.
+    fn gives_period(&self) -> bool
+        ensures { IsTrue result ↔ GivesPeriod self.now.problem.now.tech self.now.report.now.period
+            self.now.report.now.shown }
+    {
+        let period = self.report.period;
+        match &self.report.shown {
+            PeriodShow::Cycle(cycle) => is_worth(cycle.as_slice(), period),
+            PeriodShow::Floor => period.num() == self.problem.tech.floor && period.den() == 1,
+        }
+    }
 }
 
-// Whether the period isn't below the floor.
-fn is_from_floor(tech: &Tech, period: Fraction) -> bool
-    requires { IsSmallPeriod period }
-    ensures { IsTrue result ↔ IsFromFloor tech.now period }
+// Whether a cycle counts the period, and its weights sum to that count of it.
+fn is_worth(cycle: &[Constraint], period: Fraction) -> bool
+    requires few { length cycle.now ≤ 9999 }
+    requires small { All HasSmallWeight cycle.now }
+    requires period { IsSmallPeriod period }
+    ensures { IsTrue result ↔ ((pos 1 ≤ℤ pos (total_count cycle.now)) × ((period.den
+        *ℤ total_weight cycle.now) ≡ (period.num *ℤ pos (total_count cycle.now)))) }
 {
-    product(tech.floor, period.den()) <= period.num()
+    let mut weight = 0;
+    let mut count = 0;
+    for constraint in cycle {
+        weight += constraint.weight;
+        count += count_of(constraint);
+    }
+    count >= 1 && are_same(asked(period, weight, count), 0)
+}
+
+/// How much later a weight and so many periods ask an arrival to be, in ticks over the period's
+/// denominator.
+pub(crate) fn asked(period: Fraction, weight: i128, count: i128) -> i128
+    requires period { IsSmallPeriod period }
+    requires weight { IsBelow (10 ^ 16) weight }
+    requires count { IsBelow (10 ^ 16) count }
+    ensures { result ≡ (period.den *ℤ weight) -ℤ (period.num *ℤ count) }
+{
+    product(period.den(), weight) - product(period.num(), count)
+}
+
+/// How often a constraint counts the period.
+pub(crate) fn count_of(constraint: &Constraint) -> i128
+    ensures value { result ≡ pos (count_of constraint.now) }
+    ensures small { IsBelow 2 result }
+{
+    if constraint.setup { 1 } else { 0 }
 }

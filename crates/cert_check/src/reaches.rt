@@ -3,7 +3,7 @@ ghost use Rattle.cts_model.specs.tree.Embeddings.{AreWiresDown, embedding_of, to
 ghost use Rattle.cts_model.specs.placement.Points.{IsBelow};
 ghost use Rattle.cts_model.specs.report.ReportLines.{number_at};
 ghost use Rattle.cts_model.specs.tree.Topologies.{IsTopology};
-ghost use Rattle.cert_check.specs.JudgedReports.{HasReach, Skewed};
+ghost use Rattle.cert_check.specs.Vocabulary.{HasReach, Skewed, SkewDiffers, Unshown, Judges, Total, JudgesOnce};
 
 use crate::down::{are_same, difference};
 use crate::judge::Judge;
@@ -39,16 +39,12 @@ impl WiredTree<'_> {
 }
 
 impl ShapedTree<'_> {
-    ghost use Rattle.cert_check.specs.declared.verdict.Reason.TheVariants.{SkewDiffers, Unshown};
-    ghost use Rattle.cert_check.specs.Judged.{Judges};
-
     /// Whether the wires down to each register and to the first one differ as scheduled.
     pub(crate) fn judge_skews(&self, alloc: Global) -> Result<(), Stop>
         ensures { Judges (length self.now.judge.sinks.now) (Skewed self.now.judge) SkewDiffers
             result }
     {
-        let lengths = self.judge.report.tree.length.as_slice();
-        let wires = self.wires_down(alloc, lengths)?;
+        let wires = self.wires_down(alloc)?;
         let tree = WiredTree {
             judge: self.judge,
             wires: wires.as_slice(),
@@ -77,9 +73,6 @@ impl ShapedTree<'_> {
 }
 
 impl Judge<'_> {
-    ghost use Rattle.cert_check.specs.declared.verdict.Reason.TheVariants.{Total};
-    ghost use Rattle.cert_check.specs.Judged.{JudgesOnce};
-
     /// Whether the printed wire is the sum of the lengths.
     pub(crate) fn judge_total(&self) -> Result<(), Stop>
         ensures { JudgesOnce (self.now.report.now.total ≡ total_wire (length self.now.sinks.now)

@@ -1,10 +1,7 @@
 ghost use Rattle.std.specs.Prelude.{◌≡◌, ◌↔◌, ◌<◌, ◌≤◌, ◌+◌, ◌*◌, IfOk, IsTrue, length};
 ghost use Rattle.cts_model.specs.tree.Topologies.{IsTopology, source_of};
 ghost use Rattle.cts_model.specs.placement.Points.{rotated};
-ghost use Rattle.cert_check.specs.declared.verdict.Reason.TheVariants.{TreeShape};
-ghost use Rattle.cert_check.specs.Judged.{Judges, JudgesOnce};
-ghost use Rattle.cert_check.specs.EmbeddingParts.{IsOfUnmarked, JoinsAt, StandsAt};
-ghost use Rattle.cert_check.specs.JudgedReports.{Shaped, tree_of};
+ghost use Rattle.cert_check.specs.Vocabulary.{TreeShape, Judges, JudgesOnce, IsOfUnmarked, JoinsAt, StandsAt, Shaped, tree_of};
 
 use crate::judge::Judge;
 use crate::verdict::{Reason, Stop};
@@ -75,20 +72,12 @@ fn judge_merges(alloc: Global, sinks: usize, merges: &[Merge]) -> Result<(), Sto
     for place in 0..merges.len() {
         let merge = merges[place];
         if !is_of_unmarked(merge, sinks + place, joined.as_slice()) {
-            return Err(Stop::At(shape_of(sinks + place)));
+            return Err(Stop::At(Reason::TreeShape((sinks + place) as u32)));
         }
         joined[merge.first as usize] = true;
         joined[merge.second as usize] = true;
     }
     Ok(())
-}
-
-// The reason of a node that isn't as it has to be.
-fn shape_of(node: usize) -> Reason
-    requires { node ≤ 8193 }
-    ensures { result ≡ TreeShape node }
-{
-    Reason::TreeShape(node as u32)
 }
 
 // Whether a merge joins two of so many nodes that aren't marked, the lower number first.

@@ -5,18 +5,15 @@ ghost use Rattle.cts_model.specs.report.ReportBounds.{ShowsAmong};
 ghost use Rattle.cts_model.specs.report.ReportLines.{number_at};
 ghost use Rattle.cts_model.specs.tree.ShownReaches.{IsPairShow, ShowsMerge, ShowsSource};
 ghost use Rattle.cts_model.specs.tree.Topologies.{numbers_below, root_of, source_of};
-ghost use Rattle.cert_check.specs.JudgedReports.{HasReach};
-ghost use Rattle.cert_check.specs.SmallSinks.{IsSmallSink};
+ghost use Rattle.cert_check.specs.Vocabulary.{HasReach, IsSmallSink, IsMergeShown, IsReachOver, IsSourceShown};
 
 use crate::down::{are_same, difference, sum};
 use crate::item::item_at;
 use crate::judge::Judge;
 use crate::shaped::ShapedTree;
-use cts_model::{Merge, Show, Sink, Uv};
+use cts_model::{Show, Sink, Uv};
 
 impl ShapedTree<'_> {
-    ghost use Rattle.cert_check.specs.ReachParts.{IsMergeShown};
-
     /// Whether the reach of a merge or of the source is that of each node below it with the length
     /// of that one's edge, and its show gives it.
     pub(crate) fn is_reach_shown(&self, node: usize) -> bool
@@ -40,7 +37,9 @@ impl ShapedTree<'_> {
     {
         let merge = item_at(self.judge.report.topology.merges.as_slice(), place);
         let node = self.judge.sinks.len() + place;
-        self.judge.is_over_both(node, *merge) && self.shows_merge(place)
+        self.judge.is_reach_over(node, merge.first as usize)
+            && self.judge.is_reach_over(node, merge.second as usize)
+            && self.shows_merge(place)
     }
 
     // Whether the show of a merge, of its own sinks, gives its reach.
@@ -85,26 +84,14 @@ impl ShapedTree<'_> {
     {
         let sinks = self.judge.sinks;
         let reach = self.judge.reach(node);
-        self.has_both_below(node, first, second)
+        first <= second
+            && self.has_below(node, first as usize)
+            && self.has_below(node, second as usize)
             && is_half_of_span(reach, sinks[first as usize], sinks[second as usize])
     }
 }
 
 impl Judge<'_> {
-    ghost use Rattle.cert_check.specs.ReachParts.{IsReachOver, IsSourceShown};
-
-    // Whether a node's reach is that of both nodes that a merge joins.
-    fn is_over_both(&self, node: usize, merge: Merge) -> bool
-        requires node { node < 2 * length self.now.sinks.now }
-        requires first { merge.first + 1 < 2 * length self.now.sinks.now }
-        requires second { merge.second + 1 < 2 * length self.now.sinks.now }
-        ensures { IsTrue result ↔ (IsReachOver self.now.report.now.tree node merge.first
-            × IsReachOver self.now.report.now.tree node merge.second) }
-    {
-        self.is_reach_over(node, merge.first as usize)
-            && self.is_reach_over(node, merge.second as usize)
-    }
-
     // Whether the source's reach is that of the root, and its show gives it.
     fn is_source_shown(&self) -> bool
         ensures { IsTrue result

@@ -1,6 +1,5 @@
 ghost use Rattle.std.specs.Prelude.{◌<◌, ◌↔◌, IsTrue, Some, length};
-ghost use Rattle.cert_check.specs.ComparedSlacks.{AreOneSlack, HasSlackRoom, IsFromZero};
-ghost use Rattle.cert_check.specs.JudgedReports.{HasSlacks, Meets, Spares};
+ghost use Rattle.cert_check.specs.Vocabulary.{AreOneSlack, HasSlackRoom, IsFromZero, HasSlacks, Meets, Spares, ScheduleMisses, SlackDiffers, Judges};
 
 use crate::item::item_at;
 use crate::judge::Judge;
@@ -9,9 +8,6 @@ use cts_base::Fraction;
 use cts_model::Slack;
 
 impl Judge<'_> {
-    ghost use Rattle.cert_check.specs.declared.verdict.Reason.TheVariants.{ScheduleMisses, SlackDiffers};
-    ghost use Rattle.cert_check.specs.Judged.{Judges};
-
     /// Whether the paths that end at each register meet the period, by the slacks that there are.
     pub(crate) fn judge_schedule(&self, slacks: &[Slack]) -> Result<(), Stop>
         requires { HasSlacks self.now slacks.now }

@@ -11,7 +11,8 @@ invariant_of-judge c =
     let size = c.requires.size in
     let bounds = c.requires.bounds in
     let is = sym c.cycle_of.ensures in
-    let are = sym (c.as_slice.ensures ∙ c.in_ok-sinks.ensures) in
+    let are = sym (c.as_slice-2.ensures
+    ∙ (rw (c.as_slice-places.ensures, c.as_slice.ensures) at c.in_ok-sinks.ensures)) in
     let count = sinks_count problem report size bounds in
     record {
       size = size;
@@ -32,7 +33,7 @@ invariant_of-judge c =
       few = subst (λ sinks. length sinks ≤ 4097) are
           (omega (arith, count, few_registers problem.circuit));
       small = subst (All IsSmallSink) are (small_sinks problem report size bounds);
-      near = subst (IsUvBelow (10 ^ 31)) (sym c.source_of.ensures)
+      near = subst (IsUvBelow (10 ^ 31)) (sym c.rotated.ensures)
           (source_small problem report size bounds);
     }
 
@@ -42,8 +43,9 @@ returns c =
     let report = c.args.report.now in
     let result = c.judge_all.result in
     subst (λ source. Decides (IsVerdictBy problem report (cycle_of report.shown)
-    (sinks_in problem report) source) result) c.source_of.ensures
+    (sinks_in problem report) source) result) c.rotated.ensures
     (subst (λ sinks. Decides (IsVerdictBy problem report (cycle_of report.shown) sinks
-    c.source_of.result) result) (c.as_slice.ensures ∙ c.in_ok-sinks.ensures)
-    (subst (λ cycle. Decides (IsVerdictBy problem report cycle c.as_slice.result.now
-    c.source_of.result) result) c.cycle_of.ensures c.judge_all.ensures))
+    c.rotated.result) result) (c.as_slice-2.ensures
+    ∙ (rw (c.as_slice-places.ensures, c.as_slice.ensures) at c.in_ok-sinks.ensures))
+    (subst (λ cycle. Decides (IsVerdictBy problem report cycle c.as_slice-2.result.now
+    c.rotated.result) result) c.cycle_of.ensures c.judge_all.ensures))

@@ -1,10 +1,11 @@
 -- What is said of both sinks.
-use Rattle.cert_check.proofs.Vocabulary.{◌≡◌, ◌↔◌, ◌+ℤ◌, IsTrue, pos, get_or, subst, ◌∙◌, arith, w128, ints, to_z-of_z, Sink, number_at, span}
+use Rattle.cert_check.proofs.Vocabulary.{◌≡◌, ◌↔◌, ◌+ℤ◌, IsTrue, pos, get_or, subst, sym, ◌∙◌, arith, common_steps, w128, ints, to_z-of_z, Sink, number_at, span}
 use Rattle.cert_check.proofs.ShowLemmas.{denotes_span}
 use Rattle.cert_check.proofs.shaped.ShapedTree.is_pair.Goals as goal
+use Rattle.cert_check.proofs.shaped.ShapedTree.is_pair.Goals.{then-first-second, else-first-second, then-has_below, else-has_below}
 
-pub returns-then-has_both_below : goal.returns-then-has_both_below
-returns-then-has_both_below c =
+pub returns-then-has_below-2 : goal.returns-then-has_below-2
+returns-then-has_below-2 c =
     let none : Sink = record { at = record { u = pos 0; v = pos 0 }; offset = pos 0 } in
     let self = c.args.self.now.judge in
     let sinks = self.sinks.now in
@@ -15,14 +16,20 @@ returns-then-has_both_below c =
     let denoted = subst (λ z. IsTrue c.is_half_of_span.result
     ↔ (z +ℤ z ≡ span (get_or sinks c.args.first none) (get_or sinks c.args.second none))) plain
     c.is_half_of_span.ensures in
-    let below = c.has_both_below.ensures.0 c.if-has_both_below.true in
     let value = denotes_span sinks reach c.args.first c.args.second none c.is_half_of_span.result
     c.requires.first c.requires.second denoted in (
-      λ holds. record {
-        ordered = below.ordered;
-        first_below = below.first_below;
-        second_below = below.second_below;
-        value = value.0 holds;
-      },
+      λ holds. elim c.if-has_below.branch [
+        | then-has_below w ↦ elim c.if-first-second.branch [
+          | then-first-second v ↦ record {
+            ordered = omega (arith, v.if-first-second.true);
+            first_below = v.has_below.ensures.0 (sym v.value-is ∙ w.if-has_below.true);
+            second_below = w.has_below-then-has_below.ensures.0
+                (sym w.value-is ∙ c.if-has_below-2.true);
+            value = value.0 holds;
+          }
+          | else-first-second v ↦ absurd (grind (arith, common_steps))
+        ]
+        | else-has_below w ↦ absurd (grind (arith, common_steps))
+      ],
       λ shown. value.1 shown.value,
     )

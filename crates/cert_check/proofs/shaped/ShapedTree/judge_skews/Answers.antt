@@ -27,9 +27,7 @@ invariant_of-tree c =
       topology = self.are.topology;
       down = subst (λ wires. AreWiresDown sinks merges
           (number_at self.judge.report.now.tree.length) (number_at wires)) are
-          (subst (λ lengths. AreWiresDown sinks merges (number_at lengths)
-          (number_at c.in_ok-wires.wires.items)) c.as_slice-lengths.ensures
-          c.in_ok-wires.ensures.wires);
+          c.in_ok-wires.ensures.wires;
       all = subst (λ wires. length wires ≡ 2 * sinks) are c.in_ok-wires.ensures.all;
       small = subst (All (IsBelow (10 ^ 36))) are c.in_ok-wires.ensures.small;
     }

@@ -1,7 +1,7 @@
 -- One constraint more is added to both sums, and in the end they are compared as they are.
 use Rattle.cert_check.proofs.Vocabulary.{◌+ℤ◌, ◌-ℤ◌, ◌*ℤ◌, ◌≤ℤ◌, pos, false, get_or, to_z, of_z, ◌∙◌, rules, arith, common_steps, w128, ints, to_z-of_z, Constraint}
 use Rattle.cert_check.proofs.SumLemmas.{sums_all, sums_next}
-use Rattle.cert_check.proofs.value.is_worth.Goals as goal
+use Rattle.cert_check.proofs.period.is_worth.Goals as goal
 
 pub loop-constraint-preserved : goal.loop-constraint-preserved
 loop-constraint-preserved c =
