@@ -1,10 +1,10 @@
 -- What a word of a report's line has to be, and what is wrong with it first. The forms are this
 -- project's choice.
-use Rattle.std.specs.Prelude.{◌≡◌, ◌⊎◌, ◌<◌, ◌≤◌, ◌^◌, ℕ, ℤ, pos, ◌≤ℤ◌, ◌<ℤ◌, ◌+ℤ◌, ◌*ℤ◌, Option, Some, None, List, [], ◌∷◌, length, codes}
-use Rattle.report_text.specs.Common.{HasSizeBelow, IsLowest, SpellsWhole, SpellsQuotient, HaveSmallSizes, Circuit, register_name, signal_name, Flaw}
+use Rattle.std.specs.Prelude.{List, None, Option, Some, [], codes, length, map, pos, ℕ, ℤ, ◌*ℤ◌, ◌+ℤ◌, ◌<ℤ◌, ◌<◌, ◌^◌, ◌∷◌, ◌≡◌, ◌≤ℤ◌, ◌≤◌, ◌⊎◌}
+use Rattle.report_text.specs.Common.{HasSizeBelow, IsLowest, SpellsWhole, SpellsQuotient, HaveSmallSizes, IsLargeQuotient, IsNoFraction, Circuit, register_name, signal_name, Flaw, range_with_len}
 use Rattle.report_text.specs.declared.field.Flaw.TheVariants as flaws
 use Rattle.report_text.specs.LineFields.{Field, Word, Version, Kind, Exactly, Number, Counted, Weight, Period, Steps, Slack, Register, Named, From, Signal}
-use Rattle.report_text.specs.Keywords.{keyword_text}
+use Rattle.report_text.specs.Forms.{keyword_text}
 
 -- the text has the form of a fraction; one with a number of 10^37 or more in size is judged without
 -- its lowest terms
@@ -102,3 +102,40 @@ abbrev pub LineHasFlaw : Circuit → List Field → List (List ℕ) → Option F
 LineHasFlaw circuit fields words flaw = IsFirstFlaw (EachWord IsFormed fields words)
     (EachWord (IsKnown circuit) fields words) (EachWord (IsFit circuit) fields words)
     (EachWord IsWithin fields words) flaw
+
+-- the text has the form of a quotient below 0
+abbrev pub IsNegativeQuotient : List ℕ → Type 0
+IsNegativeQuotient text = (num : ℤ) × (den : ℤ) × SpellsQuotient text num den × (num <ℤ pos 0)
+
+-- a text that is no small fraction has this flaw
+abbrev pub IsRefusedFor : List ℕ → Flaw → Type 0
+IsRefusedFor text flaws.Form = IsNoFraction text
+IsRefusedFor text flaws.Large = IsLargeQuotient text
+IsRefusedFor text flaw = ⊥
+
+-- the number is below the bound, and above what is as far below 0
+abbrev pub IsBetween : (bound number : ℤ) → Type 0
+IsBetween bound number = (number <ℤ bound) × (pos 0 <ℤ (number +ℤ bound))
+
+-- what is wrong with a quotient that is to be a number of steps below a bound in size
+abbrev pub HasStepsFlaw : (over bound num den : ℤ) → Option Flaw → Type 0
+HasStepsFlaw over bound num den flaw = IsFirstFlaw (Unit {0}) (Unit {0})
+    ((steps : ℤ) × AreSteps over num den steps)
+    ((steps : ℤ) → AreSteps over num den steps
+    → (bound ≤ℤ steps → ⊥) × ((steps +ℤ bound) ≤ℤ pos 0 → ⊥)) flaw
+
+-- the names of the circuit's signals, in order
+abbrev pub signal_names : Circuit → List (List ℕ)
+signal_names circuit = map (signal_name circuit) (range_with_len 0 (length circuit.signals))
+
+-- the register of that name, or that no register has it; a circuit has at most one
+abbrev pub DenotesRegister : Circuit → List ℕ → Option ℕ → Type 0
+DenotesRegister circuit name None = NamesRegister circuit name → ⊥
+DenotesRegister circuit name (Some register) =
+    (register < length circuit.registers) × (register_name circuit register ≡ name)
+
+-- and likewise the signal
+abbrev pub DenotesSignal : Circuit → List ℕ → Option ℕ → Type 0
+DenotesSignal circuit name None = NamesSignal circuit name → ⊥
+DenotesSignal circuit name (Some number) =
+    (number < length circuit.signals) × (signal_name circuit number ≡ name)

@@ -1,15 +1,16 @@
--- The report that the sections of a text tell.
-use Rattle.std.specs.Prelude.{◌-◌, ◌*◌, ℕ, ℤ, neg_ℤ, List, [], ◌∷◌, ◌++◌, length, map, slice_index_or, codes}
-use Rattle.report_text.specs.Common.{quotient_text, Circuit, Point, Slack, Merge, Show, Report, Tech, Wire, Words, count_line, period_line, register_line, grid_of, scheduled_length, lead_line, no_wire, origin, period_show_lines, version_line, Parts, Scale, Timed}
-use Rattle.report_text.specs.Rows.{lines_of}
+-- The lines that tell the parts of a report, and what the rows among them tell, value by value.
+use Rattle.std.specs.Prelude.{List, [], codes, length, map, ℕ, ℤ, ◌*◌, ◌++◌, ◌+◌, ◌-◌, ◌∷◌}
+use Rattle.report_text.specs.Common.{quotient_text, Circuit, Point, Merge, Show, Wire, lead_line, period_show_lines, version_line, Words, count_line, period_line, register_line, Scale, Parts, Timed}
 use Rattle.report_text.specs.Values.{merged_line, placed_line, sourced_line}
+
+-- the lines of rows; the first has this number
+abbrev pub lines_of : {X : Type 0} (line : ℕ → X → Words) (first : ℕ) → List X → List Words
+lines_of line first [] = []
+lines_of line first (row ∷ rows) = line first row ∷ lines_of line (first + 1) rows
 
 -- what the rows tell, value by value
 abbrev pub arrivals_in : Parts → List ℤ
 arrivals_in parts = map (λ row. row.arrival) parts.body.timings
-
-abbrev pub slacks_in : Parts → List Slack
-slacks_in parts = map (λ row. row.slack) parts.body.timings
 
 abbrev pub merges_in : Parts → List Merge
 merges_in parts = map (λ row. row.merge) parts.body.merged
@@ -52,38 +53,3 @@ denoted_lines circuit scale parts = version_line parts.heading.version
     ∷ period_line parts.heading.period
     ∷ period_show_lines parts.heading.version circuit parts.shown.shown parts.shown.paths
     ++ lines_after circuit scale parts
-
--- a sink's reach is minus its scheduled length
-abbrev pub sink_reach : Tech → (arrival : ℤ) → ℤ
-sink_reach tech arrival = neg_ℤ (scheduled_length tech arrival)
-
-abbrev pub sink_reaches : Tech → (arrivals : List ℤ) → List ℤ
-sink_reaches tech arrivals = map (sink_reach tech) arrivals
-
--- where the last wire begins
-abbrev pub begin_of : List Wire → Point
-begin_of wires =
-    slice_index_or (slice_index_or wires (length wires - 1) no_wire).corners 0 origin
-
--- the report: the sections with what isn't printed
-abbrev pub report_denoted : Tech → Parts → Report
-report_denoted tech parts = record {
-  version = parts.heading.version;
-  period = parts.heading.period;
-  shown = parts.shown.shown;
-  paths = parts.shown.paths;
-  schedule = record { den = parts.heading.period.den; at = (arrivals_in parts) };
-  slacks = (slacks_in parts);
-  leads = parts.body.leads;
-  grid = grid_of parts.heading.period tech;
-  topology = record { merges = (merges_in parts) };
-  tree = record {
-    reach = sink_reaches tech (arrivals_in parts) ++ (reaches_in parts)
-        ++ parts.body.source.reach ∷ [];
-    place = (places_in parts) ++ begin_of (wires_in parts) ∷ [];
-    length = (lengths_in parts);
-  };
-  shows = (shows_in parts) ++ parts.body.source.show ∷ [];
-  wires = (wires_in parts);
-  total = parts.body.total.length;
-}
