@@ -1,6 +1,7 @@
 -- The lines that tell the parts of a report, and what the rows among them tell, value by value.
 use Rattle.std.specs.Prelude.{List, [], codes, length, map, ℕ, ℤ, ◌*◌, ◌++◌, ◌+◌, ◌-◌, ◌∷◌}
-use Rattle.report_text.specs.Common.{quotient_text, Circuit, Point, Merge, Show, Wire, lead_line, period_show_lines, version_line, Words, count_line, period_line, register_line, Scale, Parts, Timed}
+use Rattle.report_text.specs.Common.{quotient_text, Circuit, Point, lead_line, period_show_lines, version_line, Words, count_line, period_line, register_line, Scale, Parts, Timed}
+use Rattle.cts_model.specs.declared.tree.Show.{Show}
 use Rattle.report_text.specs.Values.{merged_line, placed_line, sourced_line}
 
 -- the lines of rows; the first has this number
@@ -9,12 +10,6 @@ lines_of line first [] = []
 lines_of line first (row ∷ rows) = line first row ∷ lines_of line (first + 1) rows
 
 -- what the rows tell, value by value
-abbrev pub arrivals_in : Parts → List ℤ
-arrivals_in parts = map (λ row. row.arrival) parts.body.timings
-
-abbrev pub merges_in : Parts → List Merge
-merges_in parts = map (λ row. row.merge) parts.body.merged
-
 abbrev pub reaches_in : Parts → List ℤ
 reaches_in parts = map (λ row. row.reach) parts.body.merged
 
@@ -23,12 +18,6 @@ shows_in parts = map (λ row. row.show) parts.body.merged
 
 abbrev pub places_in : Parts → List Point
 places_in parts = map (λ row. row.place) parts.body.placed
-
-abbrev pub lengths_in : Parts → List ℤ
-lengths_in parts = map (λ row. row.length) parts.body.placed
-
-abbrev pub wires_in : Parts → List Wire
-wires_in parts = map (λ row. row.wire) parts.body.placed
 
 -- the line of a register
 abbrev pub timed_line : Circuit → (den : ℤ) → (register : ℕ) → Timed → Words

@@ -1,13 +1,10 @@
--- What a word of a report's line has to be, and what is wrong with it first. The forms are this
--- project's choice.
+-- What a word of a report's line has to be, by this project's choice, and its first flaw.
 use Rattle.std.specs.Prelude.{List, None, Option, Some, [], codes, length, map, pos, ℕ, ℤ, ◌*ℤ◌, ◌+ℤ◌, ◌<ℤ◌, ◌<◌, ◌^◌, ◌∷◌, ◌≡◌, ◌≤ℤ◌, ◌≤◌, ◌⊎◌}
 use Rattle.report_text.specs.Common.{HasSizeBelow, IsLowest, SpellsWhole, SpellsQuotient, HaveSmallSizes, IsLargeQuotient, IsNoFraction, Circuit, register_name, signal_name, Flaw, range_with_len}
 use Rattle.report_text.specs.declared.field.Flaw.TheVariants as flaws
 use Rattle.report_text.specs.LineFields.{Field, Word, Version, Kind, Exactly, Number, Counted, Weight, Period, Steps, Slack, Register, Named, From, Signal}
-use Rattle.report_text.specs.Forms.{keyword_text}
 
--- the text has the form of a fraction; one with a number of 10^37 or more in size is judged without
--- its lowest terms
+-- the text has the form of a fraction; lowest terms are asked only of numbers below 10^37 in size
 abbrev pub IsFractionForm : List ℕ → (num den : ℤ) → Type 0
 IsFractionForm text num den = SpellsQuotient text num den
     × (HaveSmallSizes num den → IsLowest num den)
@@ -18,7 +15,7 @@ AreSteps over num den steps = (num *ℤ over) ≡ (steps *ℤ den)
 
 -- first, the word has the form that its place asks
 abbrev pub IsFormed : Field → List ℕ → Type 0
-IsFormed (Word keyword) text = text ≡ keyword_text keyword
+IsFormed (Word word) text = text ≡ word
 IsFormed Version text = (text ≡ codes "1") ⊎ (text ≡ codes "2")
 IsFormed Kind text = (text ≡ codes "setup") ⊎ (text ≡ codes "hold")
 IsFormed (Exactly number) text = SpellsWhole text (pos number)
@@ -93,9 +90,8 @@ WordHasFlaw circuit field text flaw = IsFirstFlaw (IsFormed field text)
 -- something holds of each field and its word, and there are as many words
 abbrev pub EachWord : (Field → List ℕ → Type 0) → List Field → List (List ℕ) → Type 0
 EachWord Holds [] [] = Unit {0}
-EachWord Holds [] (word ∷ words) = ⊥
-EachWord Holds (field ∷ fields) [] = ⊥
 EachWord Holds (field ∷ fields) (word ∷ words) = Holds field word × EachWord Holds fields words
+EachWord Holds fields words = ⊥
 
 -- what is wrong with a line of such fields: first with the form of any word, and so on
 abbrev pub LineHasFlaw : Circuit → List Field → List (List ℕ) → Option Flaw → Type 0
@@ -128,14 +124,8 @@ HasStepsFlaw over bound num den flaw = IsFirstFlaw (Unit {0}) (Unit {0})
 abbrev pub signal_names : Circuit → List (List ℕ)
 signal_names circuit = map (signal_name circuit) (range_with_len 0 (length circuit.signals))
 
--- the register of that name, or that no register has it; a circuit has at most one
-abbrev pub DenotesRegister : Circuit → List ℕ → Option ℕ → Type 0
-DenotesRegister circuit name None = NamesRegister circuit name → ⊥
-DenotesRegister circuit name (Some register) =
-    (register < length circuit.registers) × (register_name circuit register ≡ name)
-
--- and likewise the signal
-abbrev pub DenotesSignal : Circuit → List ℕ → Option ℕ → Type 0
-DenotesSignal circuit name None = NamesSignal circuit name → ⊥
-DenotesSignal circuit name (Some number) =
-    (number < length circuit.signals) × (signal_name circuit number ≡ name)
+-- the number that has that name of so many, or that none has it
+abbrev pub IsNumberOf : (name_of : ℕ → List ℕ) (count : ℕ) → List ℕ → Option ℕ → Type 0
+IsNumberOf name_of count name None =
+    ((number : ℕ) × (number < count) × (name_of number ≡ name)) → ⊥
+IsNumberOf name_of count name (Some number) = (number < count) × (name_of number ≡ name)

@@ -1,6 +1,7 @@
 pub mod Common
 pub mod Laws
 pub mod LineFields
+pub mod LineForms
 pub mod Forms
 pub mod Fields
 pub mod ReportFaults

@@ -1,23 +1,16 @@
 -- The parts of a whole report, one after the other, and the report that they tell.
-use Rattle.std.specs.Prelude.{All, List, None, Option, Some, [], drop, length, map, neg_ℤ, slice_index_or, ℕ, ℤ, ◌*◌, ◌++◌, ◌-◌, ◌<◌, ◌∷◌, ◌≡◌, ◌≤◌}
-use Rattle.report_text.specs.Common.{Fraction, Circuit, Point, Report, Version, Tech, Wire, count_in, HasSmallWeights, ShowsPeriodAmong, cycle_length, no_wire, origin, period_show_lines, version_line, period_line, IsSmallPeriod, grid_of, scheduled_length, Form, Scale, Body, Heading, Parts, Shown}
-use Rattle.report_text.specs.declared.field.Keyword.TheVariants as word
-use Rattle.report_text.specs.declared.form.Form.TheVariants as form
+use Rattle.std.specs.Prelude.{All, List, Option, [], drop, length, map, neg_ℤ, slice_index_or, ℕ, ℤ, ◌*◌, ◌++◌, ◌-◌, ◌<◌, ◌∷◌, ◌≡◌, ◌≤◌, codes, unwrap_or, ◌^◌}
+use Rattle.report_text.specs.Common.{Fraction, Circuit, Point, Report, Version, Tech, Wire, count_in, HasSmallWeights, ShowsPeriodAmong, cycle_length, no_wire, origin, period_show_lines, version_line, period_line, IsSmallPeriod, grid_of, scheduled_length, Scale, Body, Heading, Parts, Shown, IsBelow}
+use Rattle.report_text.specs.LineForms as form
 use Rattle.report_text.specs.Forms.{cycle_forms}
-use Rattle.report_text.specs.Values.{IsSmallCount, shown_line, DenotesLead, DenotesTimed, SaysMerge, SaysNode, SaysSource, SaysTotal}
+use Rattle.report_text.specs.Values.{IsSmallCount, shown_line, DenotesLead, DenotesTimed, SaysMerge, SaysNode, SaysSource}
+use Rattle.report_text.specs.WireLines.{wire_line}
 use Rattle.report_text.specs.Walks.{Left, Reads, DenotesLine, Counted, HasRows}
-
-abbrev pub heading_forms : List Form
-heading_forms = form.Version ∷ form.Period ∷ form.Show ∷ []
-
--- how many constraints the cycle has, none where there is no cycle
-abbrev pub count_of : Option ℕ → ℕ
-count_of None = 0
-count_of (Some count) = count
 
 -- the first three lines, which are read by any scale
 pub record HasHeading (circuit : Circuit) (old new : Left) (heading : Heading) : Type 0 where
-  pub lines : (scale : Scale) → Reads circuit scale heading_forms
+  pub lines : (scale : Scale) → Reads circuit scale
+      (form.Version ∷ form.Period ∷ form.Show ∷ [])
       (version_line heading.version ∷ period_line heading.period ∷ shown_line heading.count ∷ [])
       old new
   pub small : IsSmallPeriod heading.period
@@ -26,11 +19,11 @@ pub record HasHeading (circuit : Circuit) (old new : Left) (heading : Heading) :
 -- the lines after these, as far as they show the period
 pub record HasShown (circuit : Circuit) (scale : Scale) (version : Version) (count : Option ℕ)
     (old new : Left) (shown : Shown) : Type 0 where
-  pub lines : Reads circuit scale (cycle_forms version (count_of count))
+  pub lines : Reads circuit scale (cycle_forms version (unwrap_or count 0))
       (drop 1 (period_show_lines version circuit shown.shown shown.paths)) old new
   pub first : period_show_lines version circuit shown.shown shown.paths
       ≡ shown_line count ∷ drop 1 (period_show_lines version circuit shown.shown shown.paths)
-  pub counted : cycle_length shown.shown ≡ count_of count
+  pub counted : cycle_length shown.shown ≡ unwrap_or count 0
   pub paths : length shown.paths ≡ count_in version (cycle_length shown.shown)
   pub among : ShowsPeriodAmong (length circuit.registers) shown.shown
   pub weights : HasSmallWeights shown.shown
@@ -45,18 +38,19 @@ pub record HasBody (circuit : Circuit) (scale : Scale) (version : Version) (regi
   pub after_merges : Left
   pub after_source : Left
   pub after_nodes : Left
-  pub timings : Counted circuit scale word.Registers form.Register (DenotesTimed circuit scale)
+  pub timings : Counted circuit scale (codes "registers") form.Register (DenotesTimed circuit scale)
       0 registers old after_registers body.timings
   pub leads : HasRows circuit scale (λ number. form.Lead) (λ number. DenotesLead circuit)
       0 (count_in version registers) after_registers after_leads body.leads
-  pub merged : Counted circuit scale word.Merges form.Merge (SaysMerge circuit scale.grid)
+  pub merged : Counted circuit scale (codes "merges") form.Merge (SaysMerge circuit scale.grid)
       registers (registers - 1) after_leads after_merges body.merged
   pub source : DenotesLine circuit scale form.Source (SaysSource circuit scale.grid) after_merges
       after_source body.source
-  pub placed : Counted circuit scale word.Nodes form.Node (SaysNode scale.grid)
+  pub placed : Counted circuit scale (codes "nodes") form.Node (SaysNode scale.grid)
       0 (2 * registers - 1) after_source after_nodes body.placed
   pub total : DenotesLine circuit scale form.Total
-      (λ words line. SaysTotal scale.grid words line.length) after_nodes new body.total
+      (λ words line. (words ≡ wire_line scale.grid line.length) × IsBelow (10 ^ 36) line.length)
+      after_nodes new body.total
 
 -- the steps of a report of that period
 abbrev pub scale_in : Tech → Fraction → Scale
@@ -83,9 +77,6 @@ pub record HasParts (circuit : Circuit) (tech : Tech) (text : List ℕ) (parts :
 abbrev pub sink_reach : Tech → (arrival : ℤ) → ℤ
 sink_reach tech arrival = neg_ℤ (scheduled_length tech arrival)
 
-abbrev pub sink_reaches : Tech → (arrivals : List ℤ) → List ℤ
-sink_reaches tech arrivals = map (sink_reach tech) arrivals
-
 -- where the last wire begins
 abbrev pub begin_of : List Wire → Point
 begin_of wires =
@@ -107,7 +98,7 @@ report_denoted tech parts = record {
   grid = grid_of parts.heading.period tech;
   topology = record { merges = map (λ row. row.merge) parts.body.merged };
   tree = record {
-    reach = sink_reaches tech (map (λ row. row.arrival) parts.body.timings)
+    reach = map (sink_reach tech) (map (λ row. row.arrival) parts.body.timings)
         ++ map (λ row. row.reach) parts.body.merged ++ parts.body.source.reach ∷ [];
     place = map (λ row. row.place) parts.body.placed
         ++ begin_of (map (λ row. row.wire) parts.body.placed) ∷ [];

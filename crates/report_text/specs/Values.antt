@@ -1,8 +1,6 @@
--- What the lines of a report tell: values within their bounds, of which a report has just these
--- words.
+-- What the lines of a report tell: their words, and values within their bounds.
 use Rattle.std.specs.Prelude.{All, List, None, Option, Some, [], codes, length, pos, take, ℕ, ℤ, ◌++◌, ◌<ℤ◌, ◌<◌, ◌^◌, ◌∷◌, ◌≡◌, ◌≤ℤ◌, ◌≤◌}
 use Rattle.report_text.specs.Common.{quotient_text, HasSizeBelow, Fraction, Circuit, Constraint, Point, Report, Lead, IsBelow, IsPointBelow, IsSmallWire, HasSmallWeight, IsBetweenRegisters, LeadsAmong, IsSmallLead, IsMergeShow, IsSmallMerge, IsSourceShow, ShowsAmong, lead_line, path_line, show_words, Words, count_line, period_line, register_line, floor_line, line_for, IsSmallPeriod, AreSmallSlacks, Scale, Timed, MergeLine, NodeLine, SourceLine, signed_decimal, flat_map}
-use Rattle.report_text.specs.WireLines.{wire_line}
 
 -- words that stand after others on a line: each after a space
 abbrev pub suffix : Words → List ℕ
@@ -30,9 +28,6 @@ shown_line (Some count) = count_line (codes "cycle") count
 abbrev pub IsSmallCount : Option ℕ → Type 0
 IsSmallCount None = Unit {0}
 IsSmallCount (Some count) = (1 ≤ count) × (count ≤ 9999)
-
-abbrev pub DenotesShow : Words → Option ℕ → Type 0
-DenotesShow words count = (words ≡ shown_line count) × IsSmallCount count
 
 pub record DenotesConstraint (circuit : Circuit) (words : Words)
     (constraint : Constraint) : Type 0 where
@@ -109,8 +104,3 @@ pub record SaysNode (grid : ℤ) (node : ℕ) (words : Words) (line : NodeLine) 
   pub place : IsPointBelow (10 ^ 32) line.place
   pub edge : IsBelow (10 ^ 32) line.length
   pub wire : IsSmallWire line.wire
-
--- the words say this of the whole wire
-pub record SaysTotal (grid : ℤ) (words : Words) (total : ℤ) : Type 0 where
-  pub words_are : words ≡ wire_line grid total
-  pub small : IsBelow (10 ^ 36) total

@@ -1,7 +1,7 @@
 //! Putting a report together from what its lines tell.
 
 ghost use Rattle.std.specs.Prelude.{◌≡◌, ◌^◌, ◌++◌, ◌∷◌, [], All, IfOk, map};
-ghost use Rattle.report_text.specs.Vocabulary.{IsBelow, IsSmallPeriod, begin_of, report_denoted, sink_reaches};
+ghost use Rattle.report_text.specs.Vocabulary.{IsBelow, IsSmallPeriod, begin_of, report_denoted, sink_reach};
 
 use crate::sections::Parts;
 use cts_base::{Listed, NoMemory};
@@ -96,7 +96,7 @@ fn tree_of(
 ) -> Result<Tree, NoMemory>
     requires { All (IsBelow (10 ^ 19)) arrivals.now }
     ensures { IfOk result (λ tree. tree ≡ record {
-      reach = sink_reaches tech.now arrivals.now
+      reach = map (sink_reach tech.now) arrivals.now
           ++ map (λ row. row.reach) parts.now.body.merged ++ parts.now.body.source.reach ∷ [];
       place = map (λ row. row.place) parts.now.body.placed ++ source ∷ [];
       length = map (λ row. row.length) parts.now.body.placed;
@@ -121,7 +121,7 @@ fn tree_of(
 // The reaches of the sinks, which are their offsets.
 fn sink_reaches(alloc: Global, tech: &Tech, arrivals: &[i128]) -> Result<Vec<i128>, NoMemory>
     requires { All (IsBelow (10 ^ 19)) arrivals.now }
-    ensures { IfOk result (λ reaches. reaches.items ≡ sink_reaches tech.now arrivals.now) }
+    ensures { IfOk result (λ reaches. reaches.items ≡ map (sink_reach tech.now) arrivals.now) }
 {
     let mut reaches = Vec::new(alloc);
     for arrival in arrivals {

@@ -1,4 +1,4 @@
-use Rattle.report_text.proofs.Vocabulary.{◌≡◌, ◌∙◌, map, ap, sym, rules, tests, refl, subst, All, IsBelow, ◌^◌, begin_of, [], ◌++◌, ◌∷◌}
+use Rattle.report_text.proofs.Vocabulary.{◌≡◌, ◌∙◌, map, ap, sym, rules, tests, refl, subst, All, IsBelow, ◌^◌, [], ◌++◌, ◌∷◌}
 use Rattle.std.proofs.lemmas.Iterator.{items_from_collect, YieldsList-from_map, YieldsList-from_slice}
 use Rattle.std.proofs.lemmas.Result.{IfOk-at_ok}
 use Rattle.report_text.proofs.assembly.columns_of.Goals as goal
@@ -44,12 +44,12 @@ returns-clause-wires c = c.from_vec-5.ensures
 
 pub returns-clause-tree : goal.returns-clause-tree
 returns-clause-tree c =
-    let at : c.in_ok-at.at.items ≡ map (λ row. row.arrival) c.args.parts.now.body.timings =
-    IfOk-at_ok _ c.in_ok-at.was (items_from_collect _ c.collect.ensures.ran
-    (YieldsList-from_map _ (λ row. row.arrival) (YieldsList-from_slice c.args.parts.now.body.timings cc)
-    c.map.ensures.closure (λ x r q k. search (rules, tests)))) in
-    let wires : c.in_ok-wires.wires.items ≡ map (λ row. row.wire) c.args.parts.now.body.placed =
-    IfOk-at_ok _ c.in_ok-wires.was (items_from_collect _ c.collect-5.ensures.ran
-    (YieldsList-from_map _ (λ row. row.wire) (YieldsList-from_slice c.args.parts.now.body.placed cc)
-    c.map-5.ensures.closure (λ x r q k. search (rules, tests)))) in
-    rw (c.in_ok-tree.ensures, c.deref.ensures.value, at, c.begin_of.ensures, c.deref-2.ensures.value, wires) refl
+    rw (
+      c.in_ok-tree.ensures,
+      c.deref.ensures.value,
+      sym c.from_vec.ensures ∙ returns-clause-at c,
+      c.begin_of.ensures,
+      c.deref-2.ensures.value,
+      sym c.from_vec-5.ensures ∙ returns-clause-wires c,
+    )
+    refl

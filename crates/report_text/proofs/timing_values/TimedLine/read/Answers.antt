@@ -2,8 +2,8 @@ use Rattle.report_text.proofs.Vocabulary.{refl, sym, subst, w128, to_z-of_z, Den
 use Rattle.report_text.proofs.ScanLemmas.{form_read, takes_then}
 use Rattle.report_text.proofs.timing_values.TimedLine.read.Goals as goal
 
-pub returns : goal.returns
-returns c =
+pub returns-clause-read : goal.returns-clause-read
+returns-clause-read c =
     let circuit = c.args.rules.now.circuit.now in
     let arrival = to_z-of_z w128 c.arrival-arrival.result
     (record { sfits = c.arrival-arrival.type_inv }) in
