@@ -1,5 +1,5 @@
 -- Words that are taken one after the other, and a line that is read to its end.
-use Rattle.report_text.proofs.Vocabulary.{◌≡◌, ◌<◌, ◌≤◌, ℕ, nat_le, Bool, true, false, true≢false, if◌then◌else◌, List, [], ◌∷◌, ◌++◌, drop, length, Option, Some, None, Result, Ok, Err, IfOk, refl, sym, ap, ◌∙◌, subst, append_assoc, append-nil, length-append, arith, ◌+◌, ◌^◌, ℤ, pos, cond, All, map, replicate, codes, ◌*◌, get_or, set, take, signed_decimal, flat_map, le-leb, leb-true, nat_tests, drop-drop, map_push, replicate_more, drop-set-lt, drop_more, length-set, replicate-append-replicate, take_more_set, length-slice_split, none-some, All-nil, All-push, All-rest, All-same, flat_map-append, Circuit, Words, constraint_line, line_for, Constraint, Version, First, Second, IsBelow, IsPointBelow, HasSmallWeight, IsBetweenRegisters, path_line, signal_name, origin, Point, Field, Flaw, Form, Scale, LineHasFlaw, WordHasFlaw, rank, sooner_flaw, fields_of, constraint_fields, length_field, ReportFault, fault_of, words_of, Left, ReadsLine, StopsLine, TakesLine, EndsIn, Keeps, LineLeft, ReadsForm, Takes, TakesNext, flaw_in, version_text, DenotesConstraint, DenotesPath, coordinates, version_line}
+use Rattle.report_text.proofs.Vocabulary.{◌≡◌, ◌<◌, ◌≤◌, ℕ, nat_le, Bool, true, false, true≢false, if◌then◌else◌, List, [], ◌∷◌, ◌++◌, drop, length, Option, Some, None, Result, Ok, Err, IfOk, refl, sym, ap, ◌∙◌, subst, append_assoc, append-nil, length-append, arith, ◌+◌, ◌^◌, ℤ, pos, cond, All, map, replicate, codes, ◌*◌, get_or, set, take, signed_decimal, flat_map, le-leb, leb-true, nat_tests, drop-drop, map_push, replicate_more, drop-set-lt, drop_more, length-set, replicate-append-replicate, take_more_set, length-slice_split, none-some, All-nil, All-push, All-rest, All-same, flat_map-append, Circuit, Words, constraint_line, line_for, Constraint, Version, First, Second, IsBelow, IsPointBelow, HasSmallWeight, IsBetweenRegisters, path_line, signal_name, origin, Point, Field, Flaw, Form, Scale, LineHasFlaw, WordHasFlaw, rank, sooner_flaw, fields_of, constraint_fields, length_field, ReportFault, fault_of, words_of, Left, ReadsLine, StopsLine, TakesLine, EndsIn, Keeps, LineLeft, ReadsForm, Takes, TakesNext, flaw_in, version_text, DenotesConstraint, DenotesPath, coordinates, version_line, Bor}
 use Rattle.cts_model.specs.tree.DrawnWires.{ArePadded}
 use Rattle.report_text.specs.declared.field.Flaw.TheVariants as flaws
 use Rattle.report_text.specs.LineFields as field
@@ -194,11 +194,18 @@ form_read {circuit} {scale} {form} {fields} {texts} {Holds} {old} {new} are take
 
 -- ---- a line of a text
 
-module _ (line : List ℕ) {words : Words} (are : words ≡ words_of line) {start : LineLeft}
-    (begins : start ≡ record { words = words; flaw = None }) where
+module _ (line : List ℕ) {items slice : List (Bor (List ℕ))} (same : slice ≡ items)
+    (read : map (λ word. word.now) items ≡ words_of line) {start : LineLeft}
+    (begins : start ≡ record { words = map (λ word. word.now) slice; flaw = None }) where
+  abbrev words : Words
+  words = map (λ word. word.now) slice
+
+  are : words ≡ words_of line
+  are = ap (map (λ word. word.now)) same ∙ read
+
   -- it has a word
   pub some_words : 0 < length start.words
-  some_words = search (arith, length-slice_split)
+  some_words = search (arith, are, length-slice_split)
 
   module _ {circuit : Circuit} {scale : Scale} {form : Form} {old new : Left}
       (takes : TakesLine old line new) {Says : Words → Type 0} {left : LineLeft}

@@ -386,10 +386,9 @@ module _ (circuit : Circuit) (scale : Scale) where
   -- there are as many lines as forms, and each is without a flaw by its form
   abbrev AreFlawless : List Form → List Words → Type 0
   AreFlawless [] [] = Unit {0}
-  AreFlawless [] (words ∷ lines) = ⊥
-  AreFlawless (due ∷ forms) [] = ⊥
   AreFlawless (due ∷ forms) (words ∷ lines) =
       IsFlawless circuit scale due words × AreFlawless forms lines
+  AreFlawless forms lines = ⊥
 
   -- their text has no fault
   no_first_fault : (forms : List Form) (lines : List Words) (line : ℕ) → AreLines lines

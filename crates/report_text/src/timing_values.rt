@@ -1,6 +1,6 @@
 //! What the lines of a report's timing say.
 
-ghost use Rattle.std.specs.Prelude.{◌≡◌, ◌<◌, IfOk, All, length, map, replicate};
+ghost use Rattle.std.specs.Prelude.{◌≡◌, ◌<◌, IfOk, All, length, map, replicate, if◌then◌else◌};
 ghost use Rattle.report_text.specs.Vocabulary.{IsBetweenRegisters, HasSmallWeight, signal_name, line_for, constraint_fields, ReadsForm, Takes, DenotesPeriod, DenotesConstraint, DenotesPath, DenotesLead, DenotesTimed, version_line, shown_line, IsSmallCount};
 ghost use Rattle.report_text.specs.LineFields as field;
 ghost use Rattle.report_text.specs.LineForms as form;
@@ -73,6 +73,18 @@ fn read_constraint(rules: &Rules, scan: &mut Scan) -> Constraint
     let launch = scan.register(rules);
     let capture = scan.register(rules);
     let weight = scan.weight();
+    between(setup, launch, capture, weight)
+}
+
+// The constraint of that kind between two registers.
+fn between(setup: bool, launch: u32, capture: u32, weight: i128) -> Constraint
+    ensures { result ≡ record {
+      setup = setup;
+      tail = if setup then launch else capture;
+      head = if setup then capture else launch;
+      weight = weight;
+    } }
+{
     let (tail, head) = if setup {
         (launch, capture)
     } else {
