@@ -77,13 +77,7 @@ parts_printable {circuit} {tech} {text} {parts} has =
       period = has.heading.small;
       count = counted_shown parts.heading.count parts.shown.shown has.heading.count
           has.shown.weights has.shown.counted;
-      shown = search (
-        has.shown.weights,
-        has.shown.among,
-        has.shown.paths,
-        has.shown.signals,
-        has.shown.few,
-      );
+      shown = search has.shown;
       timings = rows_all (DenotesTimed circuit scale)
           (IsTold (DenotesTimed circuit scale) (timed_line circuit scale.den))
           (λ number words row says other. search (says.small, says.slacks)) 0
@@ -97,11 +91,7 @@ parts_printable {circuit} {tech} {text} {parts} has =
           (λ number words row says other.
           search (says.merge, says.reach, says.show, says.among)) (length circuit.registers)
           body.merged.has.lines parts.body.merged body.merged.has.each;
-      source = search (
-        body.source.denoted.reach,
-        body.source.denoted.show,
-        body.source.denoted.among,
-      );
+      source = search body.source.denoted;
       placed = rows_all (SaysNode scale.grid)
           (IsTold (SaysNode scale.grid) (placed_line scale.grid))
           (λ number words row says other. search (says.place, says.edge, says.wire)) 0

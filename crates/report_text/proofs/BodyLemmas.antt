@@ -1,6 +1,5 @@
 -- The first lines of a report, what shows its period, and the sections after it.
-use Rattle.report_text.proofs.Vocabulary.{◌≡◌, ℕ, Option, Some, List, [], ◌∷◌, codes, map, refl, ap, ◌∙◌, subst, arith, append_assoc, ◌≤◌, ◌+◌, ◌-◌, ◌*◌, ◌++◌, append-nil, range_with_len, Circuit, Constraint, Cycle, Version, First, Second, Words, count_line, line_for, Lead, ReportFault, Form, Scale, Fraction, HasHeading, HasShown, IsSmallCount, HasPathed, HasRows, Counted, IsFlawless, DenotesConstraint, DenotesPeriod, DenotesLead, Left, Reads, ReadsLine, Stops, DenotesLine, DenotesTimed, Timed, HasBody, count_in, forms_after, HasFirstFault, version_line, shown_line}
-use Rattle.cts_model.specs.declared.report.Version.TheVariants as version
+use Rattle.report_text.proofs.Vocabulary.{◌≡◌, ℕ, Option, Some, List, [], ◌∷◌, codes, map, refl, ap, ◌∙◌, subst, arith, append_assoc, ◌≤◌, ◌+◌, ◌-◌, ◌*◌, ◌++◌, append-nil, range_with_len, Circuit, Constraint, Cycle, Version, First, Second, Words, count_line, line_for, Lead, ReportFault, Form, Scale, Fraction, HasHeading, HasShown, IsSmallCount, HasPathed, HasRows, Counted, IsFlawless, DenotesConstraint, DenotesPeriod, DenotesLead, Left, Reads, ReadsLine, Stops, DenotesLine, DenotesTimed, Timed, HasBody, forms_after, HasFirstFault, version_line, shown_line}
 use Rattle.report_text.specs.LineForms as form
 use Rattle.report_text.specs.declared.sections.Body.{Body}
 use Rattle.report_text.proofs.RowLemmas.{one_form, rows_number, plain_lines, rows_all, rows_lines, counted_number, counted_read}
@@ -89,24 +88,16 @@ pub stops_within : {circuit : Circuit} {scale : Scale} {lines : List Words} {old
 stops_within {circuit} {scale} {lines} {old} {between} all a b more same fault read stops =
     search (arith, stop_before, stop_after)
 
--- there are no more leads than registers
-leads_line : (circuit : Circuit) (scale : Scale) (version : Version) (count : ℕ)
-    (old new : Left) (leads : List Lead)
-    → HasRows circuit scale (λ number. form.Lead) (λ number. DenotesLead circuit) 0
-    (count_in version count) old new leads → new.line ≤ old.line + count
-leads_line circuit scale version.First count old new leads has = omega (arith, has.read.number)
-leads_line circuit scale version.Second count old new leads has =
-    omega (arith, rows_number (λ number. form.Lead) (λ number. DenotesLead circuit) 0 has)
-
--- so the lines of both are at most twice as many, and one
-pub lines_before_merges : {circuit : Circuit} {scale : Scale} (version : Version) {count : ℕ}
-    {old between new : Left} {timings : List Timed} {leads : List Lead}
-    → Counted circuit scale (codes "registers") form.Register (DenotesTimed circuit scale) 0 count old
-    between timings → HasRows circuit scale (λ number. form.Lead) (λ number. DenotesLead circuit) 0
-    (count_in version count) between new leads
+-- before the merges there are at most two lines a register, and one
+pub lines_before_merges : {circuit : Circuit} {scale : Scale} {count leads : ℕ}
+    {old between new : Left} {timings : List Timed} {told : List Lead}
+    → Counted circuit scale (codes "registers") form.Register (DenotesTimed circuit scale) 0 count
+    old between timings → HasRows circuit scale (λ number. form.Lead)
+    (λ number. DenotesLead circuit) 0 leads between new told → leads ≤ count
     → new.line ≤ old.line + 1 + 2 * count
-lines_before_merges {circuit} {scale} version {count} {old} {between} {new} {timings} {leads}
-    registers has = search (arith, counted_number, leads_line)
+lines_before_merges {circuit} registers has few =
+    let number = rows_number (λ number. form.Lead) (λ number. DenotesLead circuit) 0 has in
+    omega (arith, counted_number registers, number, few)
 
 module _ {circuit : Circuit} {scale : Scale} {version : Version} {count : ℕ} {old new : Left}
     {body : Body} (has : HasBody circuit scale version count old new body) where

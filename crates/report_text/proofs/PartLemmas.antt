@@ -5,7 +5,7 @@ use Rattle.report_text.proofs.RowLemmas.{length_pathed}
 use Rattle.report_text.proofs.WalkLemmas.{after_place, first_place}
 use Rattle.report_text.proofs.OneLine.{Lacks}
 use Rattle.report_text.proofs.NumberWords.{spelled_whole}
-use Rattle.report_text.proofs.SpelledFields.{small_period}
+use Rattle.report_text.proofs.SpelledFields.{small_number, small_period}
 use Rattle.report_text.specs.LineForms as form
 
 -- ---- the denominator of a fraction
@@ -70,9 +70,6 @@ version_told Second = refl
 abbrev pub cycle_of : (word count : List ℕ) → ℕ
 cycle_of word count = if bytes_eq word (codes "floor") then 0 else digits_value 10 count
 
-pub small_count : (count : ℕ) → count ≤ 9999 → HasSizeBelow (10 ^ 37) (pos count)
-small_count count few = record { above = omega (arith, ints); below = omega (arith, ints, few) }
-
 -- the image of an item
 map_at : (xs : List (List ℕ)) (place : ℕ)
     → get_or (map words_of xs) place (words_of []) ≡ words_of (get_or xs place [])
@@ -84,7 +81,7 @@ map_at (x ∷ xs) (suc place) = map_at xs place
 shown_count : (count : Option ℕ) → IsSmallCount count
     → cycle_of (get_or (shown_line count) 0 []) (get_or (shown_line count) 1 []) ≡ unwrap_or count 0
 shown_count None small = refl
-shown_count (Some count) small = value_of count (small_count count small.1)
+shown_count (Some count) small = value_of count (small_number count (omega (arith, small.1)))
 
 -- a cycle has few lines
 pub cycle_few : (version : Version) (count : Option ℕ) → IsSmallCount count

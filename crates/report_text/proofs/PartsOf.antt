@@ -201,22 +201,14 @@ module _ (circuit : Circuit) (tech : Tech) (report : Report) (size : IsOfSize ci
 
   pub report_printable : ArePrintable circuit tech parts
   report_printable = search (
-    bounds.timing.period,
-    bounds.timing.cycle,
-    size.period_show,
-    size.paths,
-    size.each_path,
-    bounds.timing.paths,
+    bounds.timing,
+    bounds.tree,
     timings_told,
     leads_told,
     merges_told,
     source_told,
     nodes_told,
-    bounds.tree.total,
-    size.leads,
-    length-map-range_with_len (timed_at report) 0 count,
-    length-map-range_with_len (merged_at report count) 0 (count - 1),
-    length-map-range_with_len (node_at report) 0 (2 * count - 1),
+    length-map-range_with_len,
   )
 
   -- so the lines that tell them are those of the report

@@ -44,12 +44,7 @@ returns-clause-wires c = c.from_vec-5.ensures
 
 pub returns-clause-tree : goal.returns-clause-tree
 returns-clause-tree c =
-    rw (
-      c.in_ok-tree.ensures,
-      c.deref.ensures.value,
-      sym c.from_vec.ensures ∙ returns-clause-at c,
-      c.begin_of.ensures,
-      c.deref-2.ensures.value,
-      sym c.from_vec-5.ensures ∙ returns-clause-wires c,
-    )
-    refl
+    let at = sym c.from_vec.ensures ∙ returns-clause-at c in
+    let wires = sym c.from_vec-5.ensures ∙ returns-clause-wires c in
+    rw (c.in_ok-tree.ensures, c.deref.ensures.value, at)
+    (rw (c.begin_of.ensures, c.deref-2.ensures.value, wires) refl)

@@ -16,28 +16,21 @@ read_rows-requires c =
 
 pub read_counted-requires-2-clause-line : goal.read_counted-requires-2-clause-line
 read_counted-requires-2-clause-line c =
-    let before = lines_before_merges c.args.version c.in_ok-timings.ensures.ok
-    (rw c.leads_in.ensures.value at c.in_ok-leads.ensures.ok) in
+    let before = lines_before_merges c.in_ok-timings.ensures.ok c.in_ok-leads.ensures.ok
+    c.leads_in.ensures.few in
     omega (arith, before, c.requires.line, c.requires.few)
 
 pub read-requires : goal.read-requires
 read-requires c =
-    let before = lines_before_merges c.args.version c.in_ok-timings.ensures.ok
-    (rw c.leads_in.ensures.value at c.in_ok-leads.ensures.ok) in
-    record {
-      line = omega (
-        arith,
-        before,
-        counted_number c.in_ok-merged.ensures.ok,
-        c.requires.line,
-        c.requires.few,
-      );
-    }
+    let before = lines_before_merges c.in_ok-timings.ensures.ok c.in_ok-leads.ensures.ok
+    c.leads_in.ensures.few in
+    let merged = counted_number c.in_ok-merged.ensures.ok in
+    record { line = omega (arith, before, merged, c.requires.line, c.requires.few) }
 
 pub read_counted-requires-3-clause-line : goal.read_counted-requires-3-clause-line
 read_counted-requires-3-clause-line c =
-    let before = lines_before_merges c.args.version c.in_ok-timings.ensures.ok
-    (rw c.leads_in.ensures.value at c.in_ok-leads.ensures.ok) in
+    let before = lines_before_merges c.in_ok-timings.ensures.ok c.in_ok-leads.ensures.ok
+    c.leads_in.ensures.few in
     let merged = counted_number c.in_ok-merged.ensures.ok in
     let source = c.in_ok-source.ensures.ok in
     let read = source.line.read c.args.rules.now.scale source.line.flawless in
@@ -45,8 +38,8 @@ read_counted-requires-3-clause-line c =
 
 pub read-requires-2 : goal.read-requires-2
 read-requires-2 c =
-    let before = lines_before_merges c.args.version c.in_ok-timings.ensures.ok
-    (rw c.leads_in.ensures.value at c.in_ok-leads.ensures.ok) in
+    let before = lines_before_merges c.in_ok-timings.ensures.ok c.in_ok-leads.ensures.ok
+    c.leads_in.ensures.few in
     let merged = counted_number c.in_ok-merged.ensures.ok in
     let source = c.in_ok-source.ensures.ok in
     let read = source.line.read c.args.rules.now.scale source.line.flawless in

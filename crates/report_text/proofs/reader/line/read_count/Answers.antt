@@ -1,4 +1,4 @@
-use Rattle.report_text.proofs.Vocabulary.{◌≡◌, map, refl, ap, ◌∙◌, subst, count_line, fault_of, ReadsForm, ReadsLine}
+use Rattle.report_text.proofs.Vocabulary.{◌≡◌, refl, ap, ◌∙◌, subst, count_line, fault_of, ReadsForm, ReadsLine}
 use Rattle.report_text.specs.LineForms as form
 use Rattle.report_text.proofs.ScanLemmas.{form_read, line_says, line_stops, takes_then}
 use Rattle.report_text.proofs.reader.line.read_count.Goals as goal
