@@ -1,5 +1,5 @@
 -- A report that is put together from its sections: how large its numbers are, and its lines.
-use Rattle.report_text.proofs.Vocabulary.{◌≡◌, ◌<◌, ◌≤◌, ◌-◌, ◌*◌, ◌^◌, ℕ, List, All, Option, Some, None, length, map, refl, sym, ap, arith, ◌+◌, ℤ, pos, neg_ℤ, to_z, of_z, [], ◌∷◌, ◌++◌, get_or, codes, ap₂, ◌∙◌, subst, append_assoc, drop, append-nil, slice_get, All-map, All-append, All-cons, All-nil, All-push, ints, drop_at, get_or-append-add, get_or-map, get_or-take, get_or_append_left, get_or_push, length-append, length-map, length-take, length_push, take_at, get_or_from_slice_get, slice_get-get_or, quotient_text, Circuit, Constraint, PeriodShow, Cycle, Floor, Version, Tech, IsBelow, IsPointBelow, HasSmallWeight, HasSmallWeights, IsBetweenRegisters, ShowsPeriodAmong, count_in, cycle_length, HasTimingBounds, HasTreeBounds, IsMergeShow, IsOfSize, IsSmallWire, IsSourceShow, IsWithinBounds, ShowsAmong, Spells, lead_line, lines_below, merge_line_at, no_wire, node_line_at, origin, period_show_lines, register_line_at, report_lines, show_words, source_line, timing_lines, tree_lines, version_line, Words, line_for, count_line, period_line, register_line, text_of, IsSmallPeriod, arrival_of, grid_of, scheduled_length, Report, Root, Wire, root_of, source_of, AreSmallSlacks, Parts, timed_line, arrivals_in, begin_of, denoted_lines, lengths_in, merges_in, places_in, reaches_in, report_denoted, shows_in, sink_reach, sink_reaches, wires_in, lines_after, IsSmallCount, count_of, shown_line, HasParts, scale_in, DenotesConstraint, DenotesLead, SaysMerge, SaysNode, SaysSource, merged_line, placed_line, sourced_line, DenotesTimed, Timed, MergeLine, NodeLine, lines_of, Scale, w128}
+use Rattle.report_text.proofs.Vocabulary.{◌≡◌, ◌<◌, ◌≤◌, ◌-◌, ◌*◌, ◌^◌, ℕ, List, All, Option, Some, None, length, map, refl, sym, ap, arith, ◌+◌, ℤ, pos, neg_ℤ, to_z, of_z, [], ◌∷◌, ◌++◌, get_or, codes, ap₂, ◌∙◌, subst, append_assoc, drop, append-nil, slice_get, All-map, All-append, All-cons, All-nil, All-push, ints, drop_at, get_or-append-add, get_or-map, get_or-take, get_or_append_left, get_or_push, length-append, length-map, length-take, length_push, take_at, get_or_from_slice_get, slice_get-get_or, quotient_text, Circuit, Constraint, PeriodShow, Cycle, Floor, Version, Tech, IsBelow, IsPointBelow, HasSmallWeight, HasSmallWeights, IsBetweenRegisters, ShowsPeriodAmong, count_in, cycle_length, HasTimingBounds, HasTreeBounds, IsMergeShow, IsOfSize, IsSmallWire, IsSourceShow, IsWithinBounds, ShowsAmong, Spells, lead_line, lines_below, merge_line_at, no_wire, node_line_at, origin, period_show_lines, register_line_at, report_lines, show_words, source_line, timing_lines, tree_lines, version_line, Words, line_for, count_line, period_line, register_line, text_of, IsSmallPeriod, arrival_of, grid_of, scheduled_length, Report, Root, Wire, root_of, source_of, AreSmallSlacks, Parts, timed_line, begin_of, denoted_lines, places_in, reaches_in, report_denoted, shows_in, sink_reach, lines_after, IsSmallCount, shown_line, HasParts, scale_in, DenotesConstraint, DenotesLead, SaysMerge, SaysNode, SaysSource, merged_line, placed_line, sourced_line, DenotesTimed, Timed, MergeLine, NodeLine, lines_of, Scale, w128, unwrap_or}
 use Rattle.std.specs.Prelude.{unsigned_abs}
 use Rattle.cts_model.specs.declared.schedule.Slack.{Slack}
 use Rattle.cts_model.proofs.GridLemmas.{scheduled_size}
@@ -61,7 +61,7 @@ cycle_told cycle among small k d within number = search (among k d within, small
 
 -- a count that is that of a cycle
 counted_shown : (count : Option ℕ) (shown : PeriodShow) → IsSmallCount count
-    → HasSmallWeights shown → cycle_length shown ≡ count_of count → count ≡ count_shown shown
+    → HasSmallWeights shown → cycle_length shown ≡ unwrap_or count 0 → count ≡ count_shown shown
 counted_shown None Floor small weights same = refl
 counted_shown (Some count) (Cycle cycle) small weights same = ap Some (sym same)
 counted_shown None (Cycle cycle) small weights same = absurd (omega (arith, weights.0, same))
@@ -77,13 +77,7 @@ parts_printable {circuit} {tech} {text} {parts} has =
       period = has.heading.small;
       count = counted_shown parts.heading.count parts.shown.shown has.heading.count
           has.shown.weights has.shown.counted;
-      shown = search (
-        has.shown.weights,
-        has.shown.among,
-        has.shown.paths,
-        has.shown.signals,
-        has.shown.few,
-      );
+      shown = search has.shown;
       timings = rows_all (DenotesTimed circuit scale)
           (IsTold (DenotesTimed circuit scale) (timed_line circuit scale.den))
           (λ number words row says other. search (says.small, says.slacks)) 0
@@ -97,16 +91,12 @@ parts_printable {circuit} {tech} {text} {parts} has =
           (λ number words row says other.
           search (says.merge, says.reach, says.show, says.among)) (length circuit.registers)
           body.merged.has.lines parts.body.merged body.merged.has.each;
-      source = search (
-        body.source.denoted.reach,
-        body.source.denoted.show,
-        body.source.denoted.among,
-      );
+      source = search body.source.denoted;
       placed = rows_all (SaysNode scale.grid)
           (IsTold (SaysNode scale.grid) (placed_line scale.grid))
           (λ number words row says other. search (says.place, says.edge, says.wire)) 0
           body.placed.has.lines parts.body.placed body.placed.has.each;
-      total = body.total.denoted.small;
+      total = body.total.denoted.1;
       timings_many = body.timings.has.many;
       leads_many = body.leads.many;
       merged_many = body.merged.has.many;
@@ -158,7 +148,7 @@ module _ {circuit : Circuit} {tech : Tech} {parts : Parts}
   count = length circuit.registers
 
   abbrev sinks : List ℤ
-  sinks = sink_reaches tech (arrivals_in parts)
+  sinks = map (sink_reach tech) report.schedule.at
 
   abbrev grid : ℤ
   grid = grid_of parts.heading.period tech
@@ -167,10 +157,10 @@ module _ {circuit : Circuit} {tech : Tech} {parts : Parts}
   some = circuit.valid.some_register
 
   -- there are so many values of each kind
-  arrivals_many : length (arrivals_in parts) ≡ count
+  arrivals_many : length report.schedule.at ≡ count
   arrivals_many = length-map parts.body.timings (λ row. row.arrival) ∙ is.timings_many
 
-  merges_many : length (merges_in parts) ≡ count - 1
+  merges_many : length report.topology.merges ≡ count - 1
   merges_many = length-map parts.body.merged (λ row. row.merge) ∙ is.merged_many
 
   reaches_many : length (reaches_in parts) ≡ count - 1
@@ -182,14 +172,14 @@ module _ {circuit : Circuit} {tech : Tech} {parts : Parts}
   places_many : length (places_in parts) ≡ 2 * count - 1
   places_many = length-map parts.body.placed (λ row. row.place) ∙ is.placed_many
 
-  lengths_many : length (lengths_in parts) ≡ 2 * count - 1
+  lengths_many : length report.tree.length ≡ 2 * count - 1
   lengths_many = length-map parts.body.placed (λ row. row.length) ∙ is.placed_many
 
-  wires_many : length (wires_in parts) ≡ 2 * count - 1
+  wires_many : length report.wires ≡ 2 * count - 1
   wires_many = length-map parts.body.placed (λ row. row.wire) ∙ is.placed_many
 
   -- and they are small
-  pub arrivals_below : All (IsBelow (10 ^ 19)) (arrivals_in parts)
+  pub arrivals_below : All (IsBelow (10 ^ 19)) report.schedule.at
   arrivals_below = told_all (DenotesTimed circuit scale) (timed_line circuit scale.den) _ _ _
       is.timings (λ row says. says.small)
 
@@ -198,7 +188,7 @@ module _ {circuit : Circuit} {tech : Tech} {parts : Parts}
       → All P (map f parts.body.placed)
   placed_all f P = search (arith, told_all)
 
-  wires_small : All IsSmallWire (wires_in parts)
+  wires_small : All IsSmallWire report.wires
   wires_small = placed_all (λ row. row.wire) IsSmallWire (λ row says. says.wire)
 
   merged_all : {Y : Type 0} (f : MergeLine → Y) (P : Y → Type 0)
@@ -206,8 +196,8 @@ module _ {circuit : Circuit} {tech : Tech} {parts : Parts}
       → P (f row)) → All P (map f parts.body.merged)
   merged_all f P = search (arith, told_all)
 
-  as_many : length sinks ≡ length (arrivals_in parts)
-  as_many = length-map (arrivals_in parts) (sink_reach tech)
+  as_many : length sinks ≡ length report.schedule.at
+  as_many = length-map report.schedule.at (sink_reach tech)
 
   -- the lists are as long as the circuit has them
   denoted_size : IsOfSize circuit report
@@ -243,47 +233,47 @@ module _ {circuit : Circuit} {tech : Tech} {parts : Parts}
 
   sinks_below : All (IsBelow (10 ^ 32)) sinks
   sinks_below place default within =
-      let there : place < length (arrivals_in parts) = omega (arith, within, as_many) in
-      subst (IsBelow (10 ^ 32)) (sym (get_or-map (sink_reach tech) (arrivals_in parts) place (pos 0)
+      let there : place < length report.schedule.at = omega (arith, within, as_many) in
+      subst (IsBelow (10 ^ 32)) (sym (get_or-map (sink_reach tech) report.schedule.at place (pos 0)
       default there)) (sink_below tech _ (arrivals_below place (pos 0) there))
 
   -- the root's wire
-  root_within : length (wires_in parts) - 1 < length (wires_in parts)
+  root_within : length report.wires - 1 < length report.wires
   root_within = omega (arith, wires_many, some)
 
-  root_small : IsSmallWire (get_or (wires_in parts) (length (wires_in parts) - 1) no_wire)
-  root_small = wires_small (length (wires_in parts) - 1) no_wire root_within
+  root_small : IsSmallWire (get_or report.wires (length report.wires - 1) no_wire)
+  root_small = wires_small (length report.wires - 1) no_wire root_within
 
-  begin_below : IsPointBelow (10 ^ 32) (begin_of (wires_in parts))
+  begin_below : IsPointBelow (10 ^ 32) (begin_of report.wires)
   begin_below =
-      let wire = get_or (wires_in parts) (length (wires_in parts) - 1) no_wire in
+      let wire = get_or report.wires (length report.wires - 1) no_wire in
       let there : 0 < wire.used = omega (arith, root_small.some) in
       subst (IsPointBelow (10 ^ 32)) (get_or-take wire.used wire.corners 0 origin there)
       (root_small.each 0 origin (simp length-take (omega (arith, root_small.padded.all))))
 
   -- a sink's reach is the first of its entries
-  sink_at : (register : ℕ) → register < length (arrivals_in parts)
+  sink_at : (register : ℕ) → register < length report.schedule.at
       → get_or report.tree.reach register (pos 0)
-      ≡ neg_ℤ (scheduled_length tech (arrival_of (arrivals_in parts) register))
+      ≡ neg_ℤ (scheduled_length tech (arrival_of report.schedule.at register))
   sink_at register within = search (arith, as_many, get_or_append_left, length-append, get_or-map)
 
   -- the source stands where the root's wire begins
   source_at : (wire : Wire)
-      → slice_get (wires_in parts) (root_of (length (arrivals_in parts))) ≡ Some wire
-      → slice_get report.tree.place (source_of (length (arrivals_in parts)))
+      → slice_get report.wires (root_of (length report.schedule.at)) ≡ Some wire
+      → slice_get report.tree.place (source_of (length report.schedule.at))
       ≡ slice_get wire.corners 0
   source_at wire here =
-      let root = root_of (length (arrivals_in parts)) in
-      let source = source_of (length (arrivals_in parts)) in
-      let last : length (wires_in parts) - 1 ≡ root =
+      let root = root_of (length report.schedule.at) in
+      let source = source_of (length report.schedule.at) in
+      let last : length report.wires - 1 ≡ root =
       omega (arith, wires_many, arrivals_many, some) in
-      let is : get_or (wires_in parts) (length (wires_in parts) - 1) no_wire ≡ wire =
-      ap (λ n. get_or (wires_in parts) n no_wire) last
-      ∙ get_or_from_slice_get (wires_in parts) root wire no_wire here in
+      let is : get_or report.wires (length report.wires - 1) no_wire ≡ wire =
+      ap (λ n. get_or report.wires n no_wire) last
+      ∙ get_or_from_slice_get report.wires root wire no_wire here in
       let corners = (subst IsSmallWire is root_small).padded.all in
       let suffix : length (places_in parts) ≡ source =
       omega (arith, places_many, arrivals_many, some) in
-      let begin = begin_of (wires_in parts) in
+      let begin = begin_of report.wires in
       slice_get-get_or report.tree.place source origin
       (omega (arith, suffix, length_push (places_in parts) begin)) ∙ ap Some (get_or_push
       (places_in parts) begin origin source suffix ∙ ap (λ w. get_or w.corners 0 origin) is)
@@ -291,7 +281,7 @@ module _ {circuit : Circuit} {tech : Tech} {parts : Parts}
 
   denoted_tree_bounds : HasTreeBounds tech report
   denoted_tree_bounds =
-      let same : length (shows_in parts) ≡ length (merges_in parts) =
+      let same : length (shows_in parts) ≡ length report.topology.merges =
       shows_many ∙ sym merges_many in
       let suffix = parts.body.source.show ∷ [] in
       record {
@@ -300,15 +290,15 @@ module _ {circuit : Circuit} {tech : Tech} {parts : Parts}
         reaches = All-push (IsBelow (10 ^ 32)) (sinks ++ (reaches_in parts)) parts.body.source.reach
             (All-append (IsBelow (10 ^ 32)) sinks (reaches_in parts) sinks_below (merged_all _ _
             (λ row says. says.reach))) is.source.reach;
-        places = All-push (IsPointBelow (10 ^ 32)) (places_in parts) (begin_of (wires_in parts))
+        places = All-push (IsPointBelow (10 ^ 32)) (places_in parts) (begin_of report.wires)
             (placed_all _ _ (λ row says. says.place)) begin_below;
         lengths = placed_all _ _ (λ row says. says.edge);
         wires = wires_small;
         total = is.total;
         merge_shows = subst (All IsMergeShow) (sym (take_at (shows_in parts) suffix
-            (length (merges_in parts)) same)) (merged_all _ _ (λ row says. says.show));
+            (length report.topology.merges) same)) (merged_all _ _ (λ row says. says.show));
         source_show = subst (All IsSourceShow)
-            (sym (drop_at (shows_in parts) suffix (length (merges_in parts)) same))
+            (sym (drop_at (shows_in parts) suffix (length report.topology.merges) same))
             (All-cons IsSourceShow parts.body.source.show [] is.source.show (All-nil IsSourceShow));
         sinks = sink_at;
         source = source_at;
@@ -321,7 +311,7 @@ module _ {circuit : Circuit} {tech : Tech} {parts : Parts}
   -- ---- the lines
 
   -- the lines of the registers
-  registers_same : lines_below (register_line_at circuit report) (length (arrivals_in parts))
+  registers_same : lines_below (register_line_at circuit report) (length report.schedule.at)
       ≡ lines_of (timed_line circuit parts.heading.period.den) 0 parts.body.timings
   registers_same =
       let none : Slack = record { setup = None; hold = None } in
@@ -345,13 +335,13 @@ module _ {circuit : Circuit} {tech : Tech} {parts : Parts}
   -- that of the source
   source_same : source_line circuit report ≡ sourced_line circuit grid parts.body.source
   source_same =
-      let node = source_of (length (arrivals_in parts)) in
+      let node = source_of (length report.schedule.at) in
       let suffix : length (sinks ++ (reaches_in parts)) ≡ node =
       simp length-append (omega (arith, as_many, arrivals_many, reaches_many, some)) in
       let reach = get_or_push (sinks ++ (reaches_in parts)) parts.body.source.reach (pos 0)
       node suffix
       in
-      let show = get_or_push (shows_in parts) parts.body.source.show Root (length (merges_in parts))
+      let show = get_or_push (shows_in parts) parts.body.source.show Root (length report.topology.merges)
       (shows_many ∙ sym merges_many) in
       λ i. codes "source" ∷ quotient_text (reach i) grid ∷ show_words circuit (show i)
 
@@ -361,7 +351,7 @@ module _ {circuit : Circuit} {tech : Tech} {parts : Parts}
       ≡ placed_line grid (0 + place) (get_or parts.body.placed place default)
   node_same default place within =
       let number : place ≡ 0 + place = omega arith in
-      let stands = get_or_append_left (places_in parts) (begin_of (wires_in parts) ∷ []) origin
+      let stands = get_or_append_left (places_in parts) (begin_of report.wires ∷ []) origin
       place (omega (arith, within, length-map parts.body.placed (λ row. row.place)))
       ∙ get_or-map (λ (row : NodeLine). row.place) parts.body.placed place default origin within in
       let edge = get_or-map (λ (row : NodeLine). row.length) parts.body.placed place default (pos 0)
@@ -429,7 +419,7 @@ module _ {circuit : Circuit} {tech : Tech} {text : List ℕ} {parts : Parts}
       λ i. count_line (codes "registers") (length circuit.registers) ∷ timed i ++ leads i
       ++ count_line (codes "merges") (length circuit.registers - 1) ∷ merges i
       ++ has.body.source.denoted.words_are i ∷ count_line (codes "nodes")
-      (2 * length circuit.registers - 1) ∷ nodes i ++ has.body.total.denoted.words_are i ∷ []
+      (2 * length circuit.registers - 1) ∷ nodes i ++ has.body.total.denoted.0 i ∷ []
 
   -- the text is that of the lines of all parts
   parts_text : text ≡ text_of (denoted_lines circuit of_text parts)

@@ -1,8 +1,6 @@
 -- The first lines of a report, what shows its period, and the sections after it.
-use Rattle.report_text.proofs.Vocabulary.{◌≡◌, ℕ, Option, Some, List, [], ◌∷◌, codes, map, refl, ap, ◌∙◌, subst, arith, append_assoc, ◌≤◌, ◌+◌, ◌-◌, ◌*◌, ◌++◌, append-nil, range_with_len, Circuit, Constraint, Cycle, Version, First, Second, Words, count_line, line_for, Lead, ReportFault, Form, Scale, Fraction, HasHeading, HasShown, IsSmallCount, HasPathed, HasRows, Counted, IsFlawless, DenotesConstraint, DenotesPeriod, DenotesShow, DenotesLead, Left, Reads, ReadsLine, Stops, DenotesLine, DenotesVersion, DenotesTimed, Timed, HasBody, count_in, forms_after, HasFirstFault}
-use Rattle.cts_model.specs.declared.report.Version.TheVariants as version
-use Rattle.report_text.specs.declared.form.Form.TheVariants as form
-use Rattle.report_text.specs.declared.field.Keyword.TheVariants as word
+use Rattle.report_text.proofs.Vocabulary.{◌≡◌, ℕ, Option, Some, List, [], ◌∷◌, codes, map, refl, ap, ◌∙◌, subst, arith, append_assoc, ◌≤◌, ◌+◌, ◌-◌, ◌*◌, ◌++◌, append-nil, range_with_len, Circuit, Constraint, Cycle, Version, First, Second, Words, count_line, line_for, Lead, ReportFault, Form, Scale, Fraction, HasHeading, HasShown, IsSmallCount, HasPathed, HasRows, Counted, IsFlawless, DenotesConstraint, DenotesPeriod, DenotesLead, Left, Reads, ReadsLine, Stops, DenotesLine, DenotesTimed, Timed, HasBody, forms_after, HasFirstFault, version_line, shown_line}
+use Rattle.report_text.specs.LineForms as form
 use Rattle.report_text.specs.declared.sections.Body.{Body}
 use Rattle.report_text.proofs.RowLemmas.{one_form, rows_number, plain_lines, rows_all, rows_lines, counted_number, counted_read}
 use Rattle.report_text.proofs.WalkLemmas.{read_more, stop_after, stop_before}
@@ -14,30 +12,12 @@ pub read_as : (circuit : Circuit) (scale other : Scale) (form : Form) (words lin
     → Reads circuit other (form ∷ []) (line ∷ []) old new
 read_as circuit scale other form words line old new read flawless is = search arith
 
-module _ {circuit : Circuit} {scale : Scale} {old first : Left} {version : Version}
-    (denoted : DenotesLine circuit scale form.Version DenotesVersion old first version) where
-  -- a fault after the version
-  pub version_then : (other : Scale) (forms : List Form) (fault : ReportFault)
-      → Stops circuit other forms first fault → Stops circuit other (form.Version ∷ forms) old fault
-  version_then other forms fault stops =
-      stop_after (denoted.line.read other denoted.line.flawless) forms fault stops
-
-module _ {circuit : Circuit} {scale : Scale} {first second : Left} {period : Fraction}
-    (denoted : DenotesLine circuit scale form.Period
-    DenotesPeriod first second period) where
-  -- a fault after the period
-  pub period_then : (other : Scale) (forms : List Form) (fault : ReportFault)
-      → Stops circuit other forms second fault
-      → Stops circuit other (form.Period ∷ forms) first fault
-  period_then other forms fault stops =
-      stop_after (denoted.line.read other denoted.line.flawless) forms fault stops
-
 -- the three lines
 pub heading_read : (circuit : Circuit) (scale : Scale)
     (old first second new : Left) (version : Version) (period : Fraction) (count : Option ℕ)
-    → DenotesLine circuit scale form.Version DenotesVersion old first version
+    → DenotesLine circuit scale form.Version (λ words version. words ≡ version_line version) old first version
     → DenotesLine circuit scale form.Period DenotesPeriod first second period
-    → DenotesLine circuit scale form.Show DenotesShow second new count → HasHeading circuit old new
+    → DenotesLine circuit scale form.Show (λ words count. (words ≡ shown_line count) × IsSmallCount count) second new count → HasHeading circuit old new
     (record { version = version; period = period; count = count })
 heading_read circuit scale old first second new version period count is_version is_period is_show =
     record {
@@ -85,14 +65,14 @@ pathed_shown {circuit} {scale} {count} {old} {new} pathed small has = search ari
 
 -- the forms of three sections, after how many lines each has
 abbrev pub register_forms : ℕ → List Form
-register_forms count = form.Count word.Registers count ∷ map form.Register (range_with_len 0 count)
+register_forms count = form.Count (codes "registers") count ∷ map form.Register (range_with_len 0 count)
 
 abbrev pub merge_forms : ℕ → List Form
-merge_forms count = form.Count word.Merges (count - 1)
+merge_forms count = form.Count (codes "merges") (count - 1)
     ∷ map form.Merge (range_with_len count (count - 1))
 
 abbrev pub node_forms : ℕ → List Form
-node_forms count = form.Count word.Nodes (2 * count - 1)
+node_forms count = form.Count (codes "nodes") (2 * count - 1)
     ∷ map form.Node (range_with_len 0 (2 * count - 1))
 
 -- five lists one after the other
@@ -108,24 +88,16 @@ pub stops_within : {circuit : Circuit} {scale : Scale} {lines : List Words} {old
 stops_within {circuit} {scale} {lines} {old} {between} all a b more same fault read stops =
     search (arith, stop_before, stop_after)
 
--- there are no more leads than registers
-leads_line : (circuit : Circuit) (scale : Scale) (version : Version) (count : ℕ)
-    (old new : Left) (leads : List Lead)
-    → HasRows circuit scale (λ number. form.Lead) (λ number. DenotesLead circuit) 0
-    (count_in version count) old new leads → new.line ≤ old.line + count
-leads_line circuit scale version.First count old new leads has = omega (arith, has.read.number)
-leads_line circuit scale version.Second count old new leads has =
-    omega (arith, rows_number (λ number. form.Lead) (λ number. DenotesLead circuit) 0 has)
-
--- so the lines of both are at most twice as many, and one
-pub lines_before_merges : {circuit : Circuit} {scale : Scale} (version : Version) {count : ℕ}
-    {old between new : Left} {timings : List Timed} {leads : List Lead}
-    → Counted circuit scale word.Registers form.Register (DenotesTimed circuit scale) 0 count old
-    between timings → HasRows circuit scale (λ number. form.Lead) (λ number. DenotesLead circuit) 0
-    (count_in version count) between new leads
+-- before the merges there are at most two lines a register, and one
+pub lines_before_merges : {circuit : Circuit} {scale : Scale} {count leads : ℕ}
+    {old between new : Left} {timings : List Timed} {told : List Lead}
+    → Counted circuit scale (codes "registers") form.Register (DenotesTimed circuit scale) 0 count
+    old between timings → HasRows circuit scale (λ number. form.Lead)
+    (λ number. DenotesLead circuit) 0 leads between new told → leads ≤ count
     → new.line ≤ old.line + 1 + 2 * count
-lines_before_merges {circuit} {scale} version {count} {old} {between} {new} {timings} {leads}
-    registers has = search (arith, counted_number, leads_line)
+lines_before_merges {circuit} registers has few =
+    let number = rows_number (λ number. form.Lead) (λ number. DenotesLead circuit) 0 has in
+    omega (arith, counted_number registers, number, few)
 
 module _ {circuit : Circuit} {scale : Scale} {version : Version} {count : ℕ} {old new : Left}
     {body : Body} (has : HasBody circuit scale version count old new body) where

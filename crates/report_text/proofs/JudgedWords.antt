@@ -1,11 +1,11 @@
 -- Whether a text spells a number, and which; so each word has a flaw by its field or has none, and
 -- so each line has.
-use Rattle.report_text.proofs.Vocabulary.{◌≡◌, ◌⊎◌, ◌<◌, ◌^◌, ◌==◌, ℕ, zero, suc, ℤ, pos, negsuc, ◌≤ℤ◌, nat_abs, Bool, true, false, true≢false, inl, inr, List, [], ◌∷◌, ◌++◌, drop, refl, sym, ap, subst, ◌∙◌, arith, ◌≤◌, ◌<ℤ◌, ◌+ℤ◌, ◌*ℤ◌, Option, Some, None, codes, IsGcd, int_eq, bytes_eq, AllDigits, IsNumeral, digits_value, starts_with_minus, int_div, int_rem, position, cases_lt, Decides-eqb, Decides-int_eq, ints, by_lt_z, le_of_dvd, bytes_eq-Decides, HasSizeBelow, IsLowest, divisor_up_to, HaveSmallSizes, IsPlainNumeral, SpellsQuotient, SpellsWhole, up_to_second, HasNoSlash, one_split, slash_differs, one_whole, plain_no_minus, quotient_some, whole_no_slash, one_quotient, Circuit, register_names, one_register, Flaw, Large, Unfit, Unknown, IsRefusedFor, HasStepsFlaw, IsNegativeQuotient, Field, IsFirstFlaw, LineHasFlaw, NamesRegister, NamesSignal, WordHasFlaw, sooner_flaw, DenotesRegister, DenotesSignal, signal_names}
+use Rattle.report_text.proofs.Vocabulary.{◌≡◌, ◌⊎◌, ◌<◌, ◌^◌, ◌==◌, ℕ, zero, suc, ℤ, pos, negsuc, ◌≤ℤ◌, nat_abs, Bool, true, false, true≢false, inl, inr, List, [], ◌∷◌, ◌++◌, drop, refl, sym, ap, subst, ◌∙◌, arith, ◌≤◌, ◌<ℤ◌, ◌+ℤ◌, ◌*ℤ◌, Option, Some, None, codes, IsGcd, int_eq, bytes_eq, AllDigits, IsNumeral, digits_value, starts_with_minus, int_div, int_rem, position, cases_lt, Decides-eqb, Decides-int_eq, ints, by_lt_z, le_of_dvd, bytes_eq-Decides, HasSizeBelow, IsLowest, divisor_up_to, HaveSmallSizes, IsPlainNumeral, SpellsQuotient, SpellsWhole, up_to_second, HasNoSlash, one_split, slash_differs, one_whole, plain_no_minus, quotient_some, whole_no_slash, one_quotient, Circuit, one_register, Flaw, Large, Unfit, Unknown, IsRefusedFor, HasStepsFlaw, IsNegativeQuotient, Field, IsFirstFlaw, LineHasFlaw, NamesRegister, NamesSignal, WordHasFlaw, sooner_flaw, IsNumberOf, map, range_with_len, register_name, signal_name, length}
 use Rattle.report_text.specs.declared.field.Flaw.TheVariants.{Form}
 use Rattle.report_text.specs.LineFields as field
 use Rattle.report_text.proofs.WalkLemmas.{line_first}
 use Rattle.report_text.proofs.FractionFlaws.{dash_plain, from_zero, negative_refused, period_past, period_refused, period_within, slack_denoted, steps_denoted, steps_past, steps_refused, steps_unfit, steps_within}
-use Rattle.report_text.proofs.NameNumbers.{register_denoted, signal_denoted}
+use Rattle.report_text.proofs.NameNumbers.{number_denoted}
 
 -- ---- what a test decides
 
@@ -376,23 +376,23 @@ module _ (circuit : Circuit) where
 
   -- ---- names
 
-  -- a name is that of a register or isn't
-  register_or_not : (text : List ℕ) → OrNot (NamesRegister circuit text)
-  register_or_not text = at (position (bytes_eq text) (register_names circuit))
-      (register_denoted circuit text (register_names circuit) refl)
+  -- a name is one of so many or isn't
+  name_or_not : (name_of : ℕ → List ℕ) (count : ℕ) (text : List ℕ)
+      → OrNot ((number : ℕ) × (number < count) × (name_of number ≡ text))
+  name_or_not name_of count text =
+      let names = map name_of (range_with_len 0 count) in
+      at (position (bytes_eq text) names) (number_denoted name_of count text names refl)
     where
-      at : (found : Option ℕ) → DenotesRegister circuit text found
-          → OrNot (NamesRegister circuit text)
-      at None none = inr none
-      at (Some register) is = inl (register, is.0, is.1)
-
-  signal_or_not : (text : List ℕ) → OrNot (NamesSignal circuit text)
-  signal_or_not text = at (position (bytes_eq text) (signal_names circuit))
-      (signal_denoted circuit text (signal_names circuit) refl)
-    where
-      at : (found : Option ℕ) → DenotesSignal circuit text found → OrNot (NamesSignal circuit text)
+      at : (found : Option ℕ) → IsNumberOf name_of count text found
+          → OrNot ((number : ℕ) × (number < count) × (name_of number ≡ text))
       at None none = inr none
       at (Some number) is = inl (number, is.0, is.1)
+
+  register_or_not : (text : List ℕ) → OrNot (NamesRegister circuit text)
+  register_or_not = name_or_not (register_name circuit) (length circuit.registers)
+
+  signal_or_not : (text : List ℕ) → OrNot (NamesSignal circuit text)
+  signal_or_not = name_or_not (signal_name circuit) (length circuit.signals)
 
   from_judged : (first : ℕ) (text : List ℕ) → Judged (field.From first) text
   from_judged first text = judged sure (register_or_not text)

@@ -1,4 +1,5 @@
 mod Vocabulary
+mod DenotedLines
 mod SpelledFields
 mod TreeLines
 mod TimingLines

@@ -1,5 +1,5 @@
 -- The registers and the signals that names denote, and that no other number has the name of one.
-use Rattle.report_text.proofs.Vocabulary.{◌≡◌, ◌<◌, ◌≤◌, ℕ, Bool, List, Result, Ok, Err, IfOk, IfErr, length, get_or, sym, ap, ◌∙◌, arith, true, false, ◌&&◌, cond, IsTrue, [], None, inl, inr, refl, ◌+◌, map, position, Option, Some, subst, range_with_len, list_any, bytes_eq, false_from_ne_true, cases_lt, get_or-range_with_len, length-range_with_len, length-map-range_with_len, position_or_len_is, bytes_eq-Decides, nat_tests, slice_get_past, slice_get_within, get_or_from_slice_get, Circuit, register_name, Signal, host_name, is_named, has_host, is_host, is_name, is_short, signal_name, register_names, one_register, one_signal, Register, Flaw, NamesRegister, WordHasFlaw, register_named, flaw_in, signal_names, DenotesRegister, DenotesSignal}
+use Rattle.report_text.proofs.Vocabulary.{◌≡◌, ◌<◌, ◌≤◌, ℕ, Bool, List, Result, Ok, Err, IfOk, IfErr, length, get_or, sym, ap, ◌∙◌, arith, true, false, ◌&&◌, cond, IsTrue, [], None, inl, inr, refl, ◌+◌, map, position, Option, Some, subst, range_with_len, list_any, bytes_eq, false_from_ne_true, cases_lt, get_or-range_with_len, length-range_with_len, length-map-range_with_len, position_or_len_is, bytes_eq-Decides, nat_tests, slice_get_past, slice_get_within, get_or_from_slice_get, Circuit, register_name, Signal, host_name, is_named, has_host, is_host, is_name, is_short, signal_name, one_register, one_signal, Register, Flaw, NamesRegister, WordHasFlaw, register_named, flaw_in, IsNumberOf}
 use Rattle.cts_model.proofs.CircuitLemmas.{registered, register_signal_is}
 use Rattle.name_set.proofs.NameNumbers.{absent_below, found_below, missed_below}
 use Rattle.report_text.specs.declared.field.Flaw.TheVariants as flaws
@@ -85,32 +85,19 @@ other_register circuit register other name within is differs same =
     nameless : (number : ℕ) → length circuit.registers ≤ number → register_name circuit number ≡ []
     nameless number past = search (arith, slice_get_past)
 
-module _ (circuit : Circuit) (name : List ℕ) where
-  -- what is said of a register by its name
-  pub register_denoted : (names : List (List ℕ)) → names ≡ register_names circuit
-      → DenotesRegister circuit name (position (bytes_eq name) names)
-  register_denoted names are =
-      subst (λ (n : List (List ℕ)). DenotesRegister circuit name (position (bytes_eq name) n))
-      (sym are) (at (position (bytes_eq name) (register_names circuit)) refl)
-    where
-      at : (found : Option ℕ) → position (bytes_eq name) (register_names circuit) ≡ found
-          → DenotesRegister circuit name found
-      at (Some number) is = search (arith, found_below)
-      at None is = λ other. missed_below (register_name circuit) (length circuit.registers) name
-          is other.0 other.1 other.2
-
-  -- and of a signal
-  pub signal_denoted : (names : List (List ℕ)) → names ≡ signal_names circuit
-      → DenotesSignal circuit name (position (bytes_eq name) names)
-  signal_denoted names are =
-      subst (λ (n : List (List ℕ)). DenotesSignal circuit name (position (bytes_eq name) n))
-      (sym are) (at (position (bytes_eq name) (signal_names circuit)) refl)
-    where
-      at : (found : Option ℕ) → position (bytes_eq name) (signal_names circuit) ≡ found
-          → DenotesSignal circuit name found
-      at (Some number) is = search (arith, found_below)
-      at None is = λ other. missed_below (signal_name circuit) (length circuit.signals) name
-          is other.0 other.1 other.2
+-- the number that has that name of so many
+pub number_denoted : (name_of : ℕ → List ℕ) (count : ℕ) (name : List ℕ) (names : List (List ℕ))
+    → names ≡ map name_of (range_with_len 0 count)
+    → IsNumberOf name_of count name (position (bytes_eq name) names)
+number_denoted name_of count name names are =
+    subst (λ (n : List (List ℕ)). IsNumberOf name_of count name (position (bytes_eq name) n))
+    (sym are) (at (position (bytes_eq name) (map name_of (range_with_len 0 count))) refl)
+  where
+    at : (found : Option ℕ)
+        → position (bytes_eq name) (map name_of (range_with_len 0 count)) ≡ found
+        → IsNumberOf name_of count name found
+    at (Some number) is = search (arith, found_below)
+    at None is = λ other. missed_below name_of count name is other.0 other.1 other.2
 
 -- the name of a signal is none of those before
 pub signal_new : (circuit : Circuit) (number : ℕ) → number < length circuit.signals

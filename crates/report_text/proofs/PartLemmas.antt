@@ -1,12 +1,12 @@
 -- What the first lines of a text tell of the lines after them, and where its first fault is.
-use Rattle.report_text.proofs.Vocabulary.{◌≡◌, ◌≢◌, ◌≤◌, ◌^◌, ℕ, zero, suc, pos, Option, Some, None, List, [], ◌∷◌, ◌++◌, map, length, get_or, codes, if◌then◌else◌, refl, sym, ap, subst, ◌∙◌, append-nil, arith, ℤ, negsuc, ◌≤ℤ◌, Bool, true, false, cond, ne_eqb, slice_split, after_first, list_any, bytes_eq, length-replicate, Decides-int_eq, ints, signed_decimal, int_eq, digits_value, Circuit, Version, First, Second, Tech, Words, period_line, version_line, IsSmallPeriod, ReportFault, NoMemory, Scale, Heading, cycle_forms, forms_after, forms_of, HasHeading, HasShown, IsSmallCount, count_of, heading_forms, shown_line, scale_in, whole, HasFault, HasFirstFault, cycle_denoted, den_denoted, is_line_feed, scale_denoted, version_denoted, word_at, words_of, Left, Stops, Fraction, HasSizeBelow, fraction_text, is_slash, HasNoSlash, whole_no_slash}
+use Rattle.report_text.proofs.Vocabulary.{◌≡◌, ◌≢◌, ◌≤◌, ◌^◌, ℕ, zero, suc, pos, Option, Some, None, List, [], ◌∷◌, ◌++◌, map, length, get_or, codes, if◌then◌else◌, refl, sym, ap, subst, ◌∙◌, append-nil, arith, ℤ, negsuc, ◌≤ℤ◌, Bool, true, false, cond, ne_eqb, slice_split, after_first, list_any, bytes_eq, length-replicate, Decides-int_eq, ints, signed_decimal, int_eq, digits_value, Circuit, Version, First, Second, Tech, Words, period_line, version_line, IsSmallPeriod, ReportFault, NoMemory, Scale, Heading, cycle_forms, forms_after, forms_of, HasHeading, HasShown, IsSmallCount, shown_line, scale_in, whole, HasFault, HasFirstFault, cycle_denoted, den_denoted, is_line_feed, scale_denoted, version_denoted, word_at, words_of, Left, Stops, Fraction, HasSizeBelow, fraction_text, is_slash, HasNoSlash, whole_no_slash, unwrap_or}
 use Rattle.report_text.specs.declared.sections.Shown.{Shown}
 use Rattle.report_text.proofs.RowLemmas.{length_pathed}
 use Rattle.report_text.proofs.WalkLemmas.{after_place, first_place}
 use Rattle.report_text.proofs.OneLine.{Lacks}
 use Rattle.report_text.proofs.NumberWords.{spelled_whole}
-use Rattle.report_text.proofs.SpelledFields.{small_period}
-use Rattle.report_text.specs.declared.form.Form.TheVariants as form
+use Rattle.report_text.proofs.SpelledFields.{small_number, small_period}
+use Rattle.report_text.specs.LineForms as form
 
 -- ---- the denominator of a fraction
 
@@ -70,9 +70,6 @@ version_told Second = refl
 abbrev pub cycle_of : (word count : List ℕ) → ℕ
 cycle_of word count = if bytes_eq word (codes "floor") then 0 else digits_value 10 count
 
-pub small_count : (count : ℕ) → count ≤ 9999 → HasSizeBelow (10 ^ 37) (pos count)
-small_count count few = record { above = omega (arith, ints); below = omega (arith, ints, few) }
-
 -- the image of an item
 map_at : (xs : List (List ℕ)) (place : ℕ)
     → get_or (map words_of xs) place (words_of []) ≡ words_of (get_or xs place [])
@@ -82,13 +79,13 @@ map_at (x ∷ xs) (suc place) = map_at xs place
 
 -- what is said of the line that shows the period
 shown_count : (count : Option ℕ) → IsSmallCount count
-    → cycle_of (get_or (shown_line count) 0 []) (get_or (shown_line count) 1 []) ≡ count_of count
+    → cycle_of (get_or (shown_line count) 0 []) (get_or (shown_line count) 1 []) ≡ unwrap_or count 0
 shown_count None small = refl
-shown_count (Some count) small = value_of count (small_count count small.1)
+shown_count (Some count) small = value_of count (small_number count (omega (arith, small.1)))
 
 -- a cycle has few lines
 pub cycle_few : (version : Version) (count : Option ℕ) → IsSmallCount count
-    → length (cycle_forms version (count_of count)) ≤ 19998
+    → length (cycle_forms version (unwrap_or count 0)) ≤ 19998
 cycle_few First None small = omega arith
 cycle_few Second None small = omega arith
 cycle_few First (Some count) small = omega (arith, length-replicate count form.Constraint, small.1)
@@ -112,18 +109,18 @@ module _ (text : List ℕ) (heading : Heading) (rest : List Words)
   denoted_den : den_denoted text ≡ heading.period.den
   denoted_den = ap den_of (denoted 1 1) ∙ period_den heading.period small
 
-  denoted_cycle : cycle_denoted text ≡ count_of heading.count
+  denoted_cycle : cycle_denoted text ≡ unwrap_or heading.count 0
   denoted_cycle = search (arith, denoted, shown_count)
 
   pub forms_denoted : (tech : Tech) → ◌≡◌ {A = Scale × Version × ℕ}
       (scale_denoted tech text, version_denoted text, cycle_denoted text)
-      (scale_in tech heading.period, heading.version, count_of heading.count)
+      (scale_in tech heading.period, heading.version, unwrap_or heading.count 0)
   forms_denoted tech = search (arith, denoted_den, denoted_version, denoted_cycle)
 
   -- the first fault by the forms that they give
   pub fault_by : (circuit : Circuit) (tech : Tech) (fault : Option ReportFault)
       → HasFirstFault circuit (scale_in tech heading.period)
-      (forms_of heading.version (count_of heading.count) (length circuit.registers)) 1 text fault
+      (forms_of heading.version (unwrap_or heading.count 0) (length circuit.registers)) 1 text fault
       → HasFault circuit tech text fault
   fault_by circuit tech fault = subst (λ (given : Scale × Version × ℕ). HasFirstFault circuit
       given.0 (forms_of given.1 given.2 (length circuit.registers)) 1 text fault)
@@ -134,7 +131,7 @@ module _ {circuit : Circuit} {text : List ℕ} {new : Left} {heading : Heading}
   -- the first fault by the forms that the heading gives
   fault_given : (tech : Tech) (fault : Option ReportFault)
       → HasFirstFault circuit (scale_in tech heading.period)
-      (forms_of heading.version (count_of heading.count) (length circuit.registers)) 1 text fault
+      (forms_of heading.version (unwrap_or heading.count 0) (length circuit.registers)) 1 text fault
       → HasFault circuit tech text fault
   fault_given = fault_by text heading (map words_of (slice_split is_line_feed new.text))
       (has.lines (record { den = pos 1; grid = pos 1 })).words has.small has.count circuit
@@ -142,12 +139,12 @@ module _ {circuit : Circuit} {text : List ℕ} {new : Left} {heading : Heading}
   -- a fault in what shows the period
   pub shown_fault : (tech : Tech) (fault : ReportFault)
       → Stops circuit (scale_in tech heading.period)
-      (cycle_forms heading.version (count_of heading.count)) new fault
+      (cycle_forms heading.version (unwrap_or heading.count 0)) new fault
       → fault ≢ NoMemory → HasFault circuit tech text (Some fault)
   shown_fault tech fault stops named =
       let suffix = forms_after heading.version (length circuit.registers) in
       let read = has.lines (scale_in tech heading.period) in
-      fault_given tech _ (read.faults (cycle_forms heading.version (count_of heading.count)
+      fault_given tech _ (read.faults (cycle_forms heading.version (unwrap_or heading.count 0)
       ++ suffix) (Some fault) (stops named suffix))
 
   module _ (tech : Tech) {further : Left} {shown : Shown} (next : HasShown circuit
@@ -160,7 +157,7 @@ module _ {circuit : Circuit} {text : List ℕ} {new : Left} {heading : Heading}
     after_fault fault found =
         let suffix = forms_after heading.version (length circuit.registers) in
         let read = has.lines (scale_in tech heading.period) in
-        fault_given tech _ (read.faults (cycle_forms heading.version (count_of heading.count)
+        fault_given tech _ (read.faults (cycle_forms heading.version (unwrap_or heading.count 0)
         ++ suffix) fault (next.lines.faults suffix fault found))
 
     pub body_fault : (fault : ReportFault) → Stops circuit (scale_in tech heading.period)
@@ -173,6 +170,6 @@ module _ {circuit : Circuit} {text : List ℕ} {new : Left} {heading : Heading}
 
 -- a fault in the heading
 pub heading_fault : (circuit : Circuit) (tech : Tech) (text : List ℕ) (fault : ReportFault)
-    → ((scale : Scale) → Stops circuit scale heading_forms (whole text) fault)
+    → ((scale : Scale) → Stops circuit scale (form.Version ∷ form.Period ∷ form.Show ∷ []) (whole text) fault)
     → fault ≢ NoMemory → HasFault circuit tech text (Some fault)
 heading_fault circuit tech text fault stops named = search arith

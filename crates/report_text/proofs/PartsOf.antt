@@ -1,6 +1,6 @@
 -- The parts of a report within its bounds: the report is put together from them, and each is what a
 -- line tells.
-use Rattle.report_text.proofs.Vocabulary.{◌≡◌, ◌<◌, ◌≤◌, ◌+◌, ◌-◌, ◌*◌, ℕ, pos, List, [], ◌∷◌, ◌++◌, All, None, map, take, drop, length, get_or, refl, sym, ap, ap₂, ◌∙◌, subst, append_assoc, arith, range_with_len, get_or-drop, get_or-take, length-drop, length-take, length-take-le, take-append-drop, take_all, take_more, fill_by_all, get_or-map-range_with_len, length-map-range_with_len, slice_get-get_or, unwrap_or-slice_get, Circuit, Report, Tech, Root, IsMergeShow, IsOfSize, IsSourceShow, IsWithinBounds, lead_line, no_wire, number_at, origin, report_lines, arrival_of, Scale, Parts, Timed, MergeLine, NodeLine, arrivals_in, begin_of, denoted_lines, reaches_in, report_denoted, sink_reach, sink_reaches, timed_line, wires_in, scale_in, DenotesLead, SaysMerge, SaysNode, SaysSource, merged_line, placed_line, sourced_line, DenotesTimed}
+use Rattle.report_text.proofs.Vocabulary.{◌≡◌, ◌<◌, ◌≤◌, ◌+◌, ◌-◌, ◌*◌, ℕ, pos, List, [], ◌∷◌, ◌++◌, All, None, map, take, drop, length, get_or, refl, sym, ap, ap₂, ◌∙◌, subst, append_assoc, arith, range_with_len, get_or-drop, get_or-take, length-drop, length-take, length-take-le, take-append-drop, take_all, take_more, fill_by_all, get_or-map-range_with_len, length-map-range_with_len, slice_get-get_or, unwrap_or-slice_get, Circuit, Report, Tech, Root, IsMergeShow, IsOfSize, IsSourceShow, IsWithinBounds, lead_line, no_wire, number_at, origin, report_lines, arrival_of, Scale, Parts, Timed, MergeLine, NodeLine, begin_of, denoted_lines, reaches_in, report_denoted, sink_reach, timed_line, scale_in, DenotesLead, SaysMerge, SaysNode, SaysSource, merged_line, placed_line, sourced_line, DenotesTimed}
 use Rattle.std.proofs.lemmas.Simd.{map-map}
 use Rattle.report_text.proofs.AssemblyLemmas.{lines_denoted, ArePrintable, IsTold, count_shown}
 
@@ -92,7 +92,7 @@ module _ (circuit : Circuit) (tech : Tech) (report : Report) (size : IsOfSize ci
 
   -- ---- the report is put together from them
 
-  wires_same : wires_in parts ≡ report.wires
+  wires_same : (report_denoted tech parts).wires ≡ report.wires
   wires_same = told _ _ _ _ _ (omega (arith, size.wires)) (λ k within. refl)
 
   -- the sinks' reaches, those of the merges and that of the source
@@ -100,7 +100,7 @@ module _ (circuit : Circuit) (tech : Tech) (report : Report) (size : IsOfSize ci
   reach_same =
       let at = arrival_of report.schedule.at in
       let rest = drop count report.tree.reach in
-      let sinks = ap (sink_reaches tech) (map-map (λ (row : Timed). row.arrival) (timed_at report)
+      let sinks = ap (map (sink_reach tech)) (map-map (λ (row : Timed). row.arrival) (timed_at report)
       (range_with_len 0 count)) ∙ told_first (sink_reach tech) at report.tree.reach count (pos 0)
       (omega (arith, size.reaches))
       (λ k within. bounds.tree.sinks k (omega (arith, within, size.arrivals))) in
@@ -110,13 +110,13 @@ module _ (circuit : Circuit) (tech : Tech) (report : Report) (size : IsOfSize ci
       let last : 2 * count - 1 ≡ count + (count - 1) = omega (arith, some) in
       let source = ap (number_at report.tree.reach) last
       ∙ sym (get_or-drop count report.tree.reach (count - 1) (pos 0)) in
-      append_assoc (sink_reaches tech (arrivals_in parts)) (reaches_in parts)
+      append_assoc (map (sink_reach tech) (report_denoted tech parts).schedule.at) (reaches_in parts)
       (number_at report.tree.reach (2 * count - 1) ∷ []) ∙ ap₂ (λ xs ys. xs ++ ys) sinks
       (ap₂ (λ xs x. xs ++ x ∷ []) merges source ∙ with_last rest _ (pos 0)
       (omega (arith, long, some))) ∙ take-append-drop count report.tree.reach
 
   -- the source stands where the root's wire begins
-  begin_same : begin_of (wires_in parts) ≡ get_or report.tree.place (2 * count - 1) origin
+  begin_same : begin_of (report_denoted tech parts).wires ≡ get_or report.tree.place (2 * count - 1) origin
   begin_same = search (arith, wires_same, unwrap_or-slice_get, slice_get-get_or, some)
 
   pub report_same : report_denoted tech parts ≡ report
@@ -201,22 +201,14 @@ module _ (circuit : Circuit) (tech : Tech) (report : Report) (size : IsOfSize ci
 
   pub report_printable : ArePrintable circuit tech parts
   report_printable = search (
-    bounds.timing.period,
-    bounds.timing.cycle,
-    size.period_show,
-    size.paths,
-    size.each_path,
-    bounds.timing.paths,
+    bounds.timing,
+    bounds.tree,
     timings_told,
     leads_told,
     merges_told,
     source_told,
     nodes_told,
-    bounds.tree.total,
-    size.leads,
-    length-map-range_with_len (timed_at report) 0 count,
-    length-map-range_with_len (merged_at report count) 0 (count - 1),
-    length-map-range_with_len (node_at report) 0 (2 * count - 1),
+    length-map-range_with_len,
   )
 
   -- so the lines that tell them are those of the report

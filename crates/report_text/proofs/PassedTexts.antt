@@ -1,9 +1,8 @@
 -- A text without a fault spells a report; so each text has a fault as a report or spells one.
-use Rattle.report_text.proofs.Vocabulary.{Constraint, map, pos, ◌≡◌, ◌==◌, ℕ, suc, false, Option, Some, None, List, [], ◌∷◌, ◌++◌, length, if◌then◌else◌, refl, sym, ap, ◌∙◌, subst, append-nil, arith, ◌<◌, ◌≤◌, ◌+◌, ◌-◌, ◌*◌, ◌^◌, append_assoc, zero, Bool, true, take, drop, inl, inr, range_with_len, position, ne_eqb, none-some, length-take, Circuit, Cycle, Floor, Report, Version, First, Second, Tech, Spells, Words, count_line, few_registers, Extra, BadLine, Missing, Form, Scale, Heading, Parts, cycle_forms, forms_after, lead_forms, fields_of, forms_of, HasHeading, HasShown, IsSmallCount, count_of, heading_forms, HasParts, scale_in, whole, is_line_feed, words_of, HasFault, cycle_denoted, scale_denoted, version_denoted, HasFirstFault, fault_of, IsFlawless, DenotesConstraint, DenotesLead, DenotesPath, report_denoted, Left, ReadsLine, DenotesTimed, TakesLine, DenotesLine, Keyword, HasBody, count_in, keyword_text, Counted, HasPathed, HasRows, IsSmallScale, SaysMerge, SaysNode, SaysSource, SaysTotal, Flaw, LineHasFlaw, ReportFault, HasFaultOrReport}
+use Rattle.report_text.proofs.Vocabulary.{Constraint, map, pos, ◌≡◌, ◌==◌, ℕ, suc, false, Option, Some, None, List, [], ◌∷◌, ◌++◌, length, if◌then◌else◌, refl, sym, ap, ◌∙◌, subst, append-nil, arith, ◌<◌, ◌≤◌, ◌+◌, ◌-◌, ◌*◌, ◌^◌, append_assoc, zero, Bool, true, take, drop, inl, inr, range_with_len, position, ne_eqb, none-some, length-take, Circuit, Cycle, Floor, Report, Version, First, Second, Tech, Spells, Words, count_line, few_registers, Extra, BadLine, Missing, Form, Scale, Heading, Parts, cycle_forms, forms_after, lead_forms, fields_of, forms_of, HasHeading, HasShown, IsSmallCount, HasParts, scale_in, whole, is_line_feed, words_of, HasFault, cycle_denoted, scale_denoted, version_denoted, HasFirstFault, fault_of, IsFlawless, DenotesConstraint, DenotesLead, DenotesPath, report_denoted, Left, ReadsLine, DenotesTimed, TakesLine, DenotesLine, HasBody, count_in, Counted, HasPathed, HasRows, IsSmallScale, SaysMerge, SaysNode, SaysSource, Flaw, LineHasFlaw, ReportFault, HasFaultOrReport, codes, unwrap_or, wire_line, IsBelow}
 use Rattle.cts_model.specs.declared.report.Version.TheVariants as version
 use Rattle.report_text.specs.declared.tree_values.TotalLine.{TotalLine}
-use Rattle.report_text.specs.declared.form.Form.TheVariants as form
-use Rattle.report_text.specs.declared.field.Keyword.TheVariants as word
+use Rattle.report_text.specs.LineForms as form
 use Rattle.report_text.proofs.SpelledFields.{scale_small}
 use Rattle.report_text.proofs.BodyLemmas.{cycle_shown, heading_read, pathed_shown, merge_forms, node_forms, register_forms, sections_apart}
 use Rattle.report_text.proofs.PartLemmas.{forms_denoted}
@@ -172,14 +171,13 @@ module _ (circuit : Circuit) (scale : Scale) where
   -- ---- the sections
 
   -- so many lines after how many they are
-  counted_passed : {X : Type 0} (keyword : Keyword) (due : ℕ → Form)
+  counted_passed : {X : Type 0} (keyword : List ℕ) (due : ℕ → Form)
       (Says : ℕ → Words → X → Type 0) (first count : ℕ) (more : List Form) → count < 10 ^ 37
       → IsFound circuit scale due Says first count → (old : Left) → IsSound circuit scale
       ((form.Count keyword count ∷ map due (range_with_len first count)) ++ more) old
       → Passed circuit scale more (Counted circuit scale keyword due Says first count old)
   counted_passed keyword due Says first count more few found old sound =
-      let line = denoted_passed _ _ _ _ (λ words (denoted : ℕ). words ≡ count_line (keyword_text
-      keyword) count) old (λ words some flawless. (
+      let line = denoted_passed _ _ _ _ (λ words (denoted : ℕ). words ≡ count_line keyword count) old (λ words some flawless. (
         0,
         count_found circuit scale keyword count words few flawless,
       )) sound in
@@ -213,24 +211,25 @@ module _ (circuit : Circuit) (scale : Scale) where
       (register_forms count ++ lead_forms version count ++ merge_forms count ++ form.Source
       ∷ node_forms count) (form.Total ∷ []) more ∙ sections_apart (register_forms count)
       (lead_forms version count) (merge_forms count) (form.Source ∷ node_forms count) last) sound in
-      let timings = counted_passed word.Registers form.Register (DenotesTimed circuit scale) 0 count
+      let timings = counted_passed (codes "registers") form.Register (DenotesTimed circuit scale) 0 count
       (lead_forms version count ++ (merge_forms count ++ (form.Source ∷ node_forms count ++ last)))
       (omega (arith, few)) (λ number words within some. timed_found circuit scale number words
       small) old apart in
       let leads = leads_passed version count
       (merge_forms count ++ (form.Source ∷ node_forms count ++ last)) timings.new timings.rest in
-      let merged = counted_passed word.Merges form.Merge (SaysMerge circuit scale.grid) count
+      let merged = counted_passed (codes "merges") form.Merge (SaysMerge circuit scale.grid) count
       (count - 1) (form.Source ∷ node_forms count ++ last) (omega (arith, few))
       (λ number words within some. merge_found circuit scale number words small
       (omega (arith, few, within))) leads.new leads.rest in
       let source = denoted_passed circuit scale form.Source (node_forms count ++ last)
       (SaysSource circuit scale.grid) merged.new
       (λ words there. source_found circuit scale words small) merged.rest in
-      let placed = counted_passed word.Nodes form.Node (SaysNode scale.grid) 0 (2 * count - 1) last
+      let placed = counted_passed (codes "nodes") form.Node (SaysNode scale.grid) 0 (2 * count - 1) last
       (omega (arith, few)) (λ number words within some. node_found circuit scale number words small
       (omega (arith, few, within)) some) source.new source.rest in
       let total = denoted_passed circuit scale form.Total more
-      (λ words (line : TotalLine). SaysTotal scale.grid words line.length) placed.new
+      (λ words (line : TotalLine). (words ≡ wire_line scale.grid line.length)
+      × IsBelow (10 ^ 36) line.length) placed.new
       (λ words there flawless.
       let (length, says) = total_found circuit scale words small flawless in
       (record { length = length }, says)) placed.rest in
@@ -262,7 +261,7 @@ module _ (circuit : Circuit) (scale : Scale) where
 
 -- the heading
 heading_passed : (circuit : Circuit) (scale : Scale) (more : List Form) (old : Left)
-    → IsSound circuit scale (heading_forms ++ more) old
+    → IsSound circuit scale (form.Version ∷ form.Period ∷ form.Show ∷ [] ++ more) old
     → Passed circuit scale more (HasHeading circuit old)
 heading_passed circuit scale more old sound =
     let version = denoted_passed _ _ _ (form.Period ∷ form.Show ∷ more)
@@ -285,7 +284,7 @@ heading_passed circuit scale more old sound =
 -- what shows the period
 shown_passed : (circuit : Circuit) (scale : Scale) (version : Version) (count : Option ℕ)
     → (more : List Form) (old : Left) → IsSmallCount count
-    → IsSound circuit scale (cycle_forms version (count_of count) ++ more) old
+    → IsSound circuit scale (cycle_forms version (unwrap_or count 0) ++ more) old
     → Passed circuit scale more (HasShown circuit scale version count old)
 shown_passed circuit scale First None more old small sound = record {
   new = old;
@@ -322,7 +321,7 @@ forms_given : {circuit : Circuit} {text : List ℕ} {new : Left} {heading : Head
     → (tech : Tech) → IsSound circuit (scale_denoted tech text)
     (cycle_forms (version_denoted text) (cycle_denoted text) ++ forms_after (version_denoted text)
     (length circuit.registers)) new → IsSound circuit (scale_in tech heading.period)
-    (cycle_forms heading.version (count_of heading.count)
+    (cycle_forms heading.version (unwrap_or heading.count 0)
     ++ forms_after heading.version (length circuit.registers)) new
 forms_given {circuit} {text} {new} {heading} has tech =
     subst (λ (given : Scale × Version × ℕ). IsSound circuit given.0 (cycle_forms given.1 given.2

@@ -43,11 +43,9 @@ line_words (word ∷ words) is = is
 -- the lines of a cycle's constraints and their paths
 path_is : (circuit : Circuit) (path : List ℕ) → IsLine (path_line circuit path)
 path_is circuit [] = search arith
-path_is circuit (first ∷ more) = search (
-  arith,
-  number_word,
-  mapped IsWord (signal_name circuit) (first ∷ more) (signal_word circuit),
-)
+path_is circuit (first ∷ more) =
+    let each = mapped IsWord (signal_name circuit) (first ∷ more) (signal_word circuit) in
+    search (arith, number_word, each)
 
 pathed_are : (circuit : Circuit) (cycle : List Constraint) (paths : List (List ℕ))
     → AreLines (pathed_lines circuit cycle paths)
@@ -69,11 +67,9 @@ shown_are Second circuit Floor paths = search arith
 -- that of a lead
 lead_is : (circuit : Circuit) (lead : Lead) → IsLine (lead_line circuit lead)
 lead_is circuit Zero = search arith
-lead_is circuit (Tight depth constraint) = search (
-  arith,
-  number_word,
-  line_words (line_for circuit constraint) (constraint_is circuit constraint),
-)
+lead_is circuit (Tight depth constraint) =
+    let line = line_words (line_for circuit constraint) (constraint_is circuit constraint) in
+    search (arith, number_word, line)
 
 -- that of a register
 register_is : (circuit : Circuit) (report : Report) (register : ℕ)

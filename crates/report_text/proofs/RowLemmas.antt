@@ -1,7 +1,7 @@
 -- Lines of one form, one after the other, and the rows that they tell.
-use Rattle.report_text.proofs.Vocabulary.{ℕ, zero, suc, ◌≡◌, ◌<◌, ◌≤◌, ◌+◌, ◌*◌, All, List, [], ◌∷◌, ◌++◌, map, length, get_or, replicate, refl, sym, ap, ap₂, subst, ◌∙◌, arith, range_with_len, length-append, All-cons, All-nil, All-push, length-map-range_with_len, map-range_with_len_more, Circuit, Constraint, Words, count_line, line_for, HasSmallWeight, IsBetweenRegisters, path_line, pathed_lines, ReportFault, Keyword, Form, Scale, cycle_forms, keyword_text, Counted, HasPathed, HasRows, SayEach, lines_of, DenotesConstraint, DenotesPath, Left, Reads, Stops, StopsLine, DenotesLine}
+use Rattle.report_text.proofs.Vocabulary.{ℕ, zero, suc, ◌≡◌, ◌<◌, ◌≤◌, ◌+◌, ◌*◌, All, List, [], ◌∷◌, ◌++◌, map, length, get_or, replicate, refl, sym, ap, ap₂, subst, ◌∙◌, arith, range_with_len, length-append, All-cons, All-nil, All-push, length-map-range_with_len, map-range_with_len_more, Circuit, Constraint, Words, count_line, line_for, HasSmallWeight, IsBetweenRegisters, path_line, pathed_lines, ReportFault, Form, Scale, cycle_forms, Counted, HasPathed, HasRows, SayEach, lines_of, DenotesConstraint, DenotesPath, Left, Reads, Stops, StopsLine, DenotesLine}
 use Rattle.cts_model.specs.declared.report.Version.TheVariants as version
-use Rattle.report_text.specs.declared.form.Form.TheVariants as form
+use Rattle.report_text.specs.LineForms as form
 use Rattle.report_text.proofs.WalkLemmas.{next_read, next_stops, read_more, read_none, stop_line}
 
 -- a list with one more item
@@ -116,13 +116,13 @@ module _ {X : Type 0} {circuit : Circuit} {scale : Scale} (due : ℕ → Form)
         (numbered_step due first) place count has.lines old between fault within has.read
         (stop_line circuit scale (due (first + place)) between fault stops)
 
-module _ {X : Type 0} {circuit : Circuit} {scale : Scale} {keyword : Keyword} {due : ℕ → Form}
+module _ {X : Type 0} {circuit : Circuit} {scale : Scale} {keyword : List ℕ} {due : ℕ → Form}
     {Says : ℕ → Words → X → Type 0} {first count : ℕ} {old new : Left} {rows : List X}
     (has : Counted circuit scale keyword due Says first count old new rows) where
   -- the lines of rows, after how many they are
   pub counted_read : Reads circuit scale
       (form.Count keyword count ∷ map due (range_with_len first count))
-      (count_line (keyword_text keyword) count ∷ has.has.lines) old new
+      (count_line keyword count ∷ has.has.lines) old new
   counted_read = read_more (has.counted.read scale has.counted.flawless) _ _ new has.has.read
 
   pub counted_number : new.line ≡ old.line + 1 + count

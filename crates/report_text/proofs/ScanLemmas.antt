@@ -1,5 +1,5 @@
 -- Words that are taken one after the other, and a line that is read to its end.
-use Rattle.report_text.proofs.Vocabulary.{◌≡◌, ◌<◌, ◌≤◌, ℕ, nat_le, Bool, true, false, true≢false, if◌then◌else◌, List, [], ◌∷◌, ◌++◌, drop, length, Option, Some, None, Result, Ok, Err, IfOk, refl, sym, ap, ◌∙◌, subst, append_assoc, append-nil, length-append, arith, ◌+◌, ◌^◌, ℤ, pos, cond, All, map, replicate, codes, ◌*◌, get_or, set, take, signed_decimal, flat_map, le-leb, leb-true, nat_tests, drop-drop, map_push, replicate_more, drop-set-lt, drop_more, length-set, replicate-append-replicate, take_more_set, length-slice_split, none-some, All-nil, All-push, All-rest, All-same, flat_map-append, Circuit, Words, constraint_line, line_for, Constraint, Version, First, Second, IsBelow, IsPointBelow, HasSmallWeight, IsBetweenRegisters, path_line, signal_name, origin, Point, Field, Flaw, Form, Scale, LineHasFlaw, WordHasFlaw, rank, sooner_flaw, fields_of, constraint_fields, length_field, ReportFault, fault_of, words_of, Left, ReadsLine, StopsLine, TakesLine, DenotesVersion, EndsIn, Keeps, LineLeft, ReadsForm, Taken, Takes, TakesNext, flaw_in, version_text, DenotesConstraint, DenotesPath, coordinates}
+use Rattle.report_text.proofs.Vocabulary.{◌≡◌, ◌<◌, ◌≤◌, ℕ, nat_le, Bool, true, false, true≢false, if◌then◌else◌, List, [], ◌∷◌, ◌++◌, drop, length, Option, Some, None, Result, Ok, Err, IfOk, refl, sym, ap, ◌∙◌, subst, append_assoc, append-nil, length-append, arith, ◌+◌, ◌^◌, ℤ, pos, cond, All, map, replicate, codes, ◌*◌, get_or, set, take, signed_decimal, flat_map, le-leb, leb-true, nat_tests, drop-drop, map_push, replicate_more, drop-set-lt, drop_more, length-set, replicate-append-replicate, take_more_set, length-slice_split, none-some, All-nil, All-push, All-rest, All-same, flat_map-append, Circuit, Words, constraint_line, line_for, Constraint, Version, First, Second, IsBelow, IsPointBelow, HasSmallWeight, IsBetweenRegisters, path_line, signal_name, origin, Point, Field, Flaw, Form, Scale, LineHasFlaw, WordHasFlaw, rank, sooner_flaw, fields_of, constraint_fields, length_field, ReportFault, fault_of, words_of, Left, ReadsLine, StopsLine, TakesLine, EndsIn, Keeps, LineLeft, ReadsForm, Takes, TakesNext, flaw_in, version_text, DenotesConstraint, DenotesPath, coordinates, version_line, Bor}
 use Rattle.cts_model.specs.tree.DrawnWires.{ArePadded}
 use Rattle.report_text.specs.declared.field.Flaw.TheVariants as flaws
 use Rattle.report_text.specs.LineFields as field
@@ -111,7 +111,7 @@ module _ {X : Type 0} (circuit : Circuit) (due : Field) {old between new : LineL
         at : (read : Result X Flaw) → IfOk read (λ value. given ≡ value) → flaw_in read ≡ None
             → IfOk read (λ value. (word ≡ text value) × Holds value)
             → (words : Words) → old.words ≡ words → between.flaw ≡ None
-            → Taken (text given ∷ []) (Holds given) old new
+            → (old.flaw ≡ None) × (old.words ≡ text given ∷ [] ++ new.words) × Holds given
         at (Ok value) same ok spells [] none sound = search (arith, none-some)
         at (Ok value) same ok spells (first ∷ rest) some sound = search arith
         at (Err flaw) same ok spells words are sound = absurd (none-some flaw (sym ok))
@@ -146,14 +146,13 @@ takes_then {circuit} {fields} {fields'} {texts} {texts'} {Holds} {Holds'} {old} 
           subst (λ fs. EndsIn circuit fs old flaw) (sym (append_assoc fields fields' more))
           (first.judged (fields' ++ more) flaw (second.judged more flaw ends));
       taken = λ none.
-          let b = second.taken none in
-          let a = first.taken b.sound in
-          record {
-            sound = a.sound;
-            words = a.words ∙ ap (λ ws. texts ++ ws) b.words
-                ∙ sym (append_assoc texts texts' new.words);
-            holds = (a.holds, b.holds);
-          };
+          let (between_sound, between_words, between_holds) = second.taken none in
+          let (sound, words, holds) = first.taken between_sound in (
+            sound,
+            words ∙ ap (λ ws. texts ++ ws) between_words
+                ∙ sym (append_assoc texts texts' new.words),
+            (holds, between_holds),
+          );
     }
 
 -- words are taken, and what follows from what holds of them holds too
@@ -189,17 +188,24 @@ form_read {circuit} {scale} {form} {fields} {texts} {Holds} {old} {new} are take
       subst (λ fs. EndsIn circuit fs old flaw) (append-nil fields ∙ sym are)
       (takes.judged [] flaw ends);
   says = λ none left.
-      let taken = takes.taken none in
-      says (taken.words ∙ ap (λ ws. texts ++ ws) left ∙ append-nil texts) taken.holds;
+      let (sound, words, holds) = takes.taken none in
+      says (words ∙ ap (λ ws. texts ++ ws) left ∙ append-nil texts) holds;
 }
 
 -- ---- a line of a text
 
-module _ (line : List ℕ) {words : Words} (are : words ≡ words_of line) {start : LineLeft}
-    (begins : start ≡ record { words = words; flaw = None }) where
+module _ (line : List ℕ) {items slice : List (Bor (List ℕ))} (same : slice ≡ items)
+    (read : map (λ word. word.now) items ≡ words_of line) {start : LineLeft}
+    (begins : start ≡ record { words = map (λ word. word.now) slice; flaw = None }) where
+  abbrev words : Words
+  words = map (λ word. word.now) slice
+
+  are : words ≡ words_of line
+  are = ap (map (λ word. word.now)) same ∙ read
+
   -- it has a word
   pub some_words : 0 < length start.words
-  some_words = search (arith, length-slice_split)
+  some_words = search (arith, are, length-slice_split)
 
   module _ {circuit : Circuit} {scale : Scale} {form : Form} {old new : Left}
       (takes : TakesLine old line new) {Says : Words → Type 0} {left : LineLeft}
@@ -231,7 +237,7 @@ module _ (line : List ℕ) {words : Words} (are : words ≡ words_of line) {star
     )
 
 pub version_read : {words : Words} (version : Version)
-    → words ≡ codes "cts" ∷ version_text version ∷ [] → DenotesVersion words version
+    → words ≡ codes "cts" ∷ version_text version ∷ [] → words ≡ version_line version
 version_read First are = are
 version_read Second are = are
 

@@ -1,6 +1,6 @@
 -- What each word of a line without a flaw is: the word of a value that its field admits. A line has
 -- no flaw just where each of its words is one.
-use Rattle.report_text.proofs.Vocabulary.{◌≡◌, ◌^◌, ℤ, pos, negsuc, ◌*ℤ◌, ◌≤ℤ◌, arith, ◌<◌, ◌≤◌, ◌⊎◌, ℕ, nat_abs, Bool, true, false, inl, inr, List, [], ◌∷◌, length, if◌then◌else◌, Option, Some, None, codes, drop, get_or, refl, sym, ap, ◌∙◌, subst, signed_decimal, AllByRecursion, one-le-mul, ints, Fraction, HasSizeBelow, fraction_text, quotient_text, IsLowest, SpellsWhole, HaveSmallSizes, few_digits, lowest_sizes, no_fraction_minus, one_decimal, one_fraction_text, one_number_text, one_quotient_text, one_whole, quotient_some, quotient_text_spelled, Tech, IsBelow, IsSmallPeriod, Circuit, Version, First, Second, register_name, signal_name, Words, slack_text, IsSmallSlack, one_register, one_signal, scale_in, IsSmallScale, Field, AreFewSteps, IsFractionForm, IsWholeSteps, LineHasFlaw, NamesRegister, WordHasFlaw, keyword_text, version_text}
+use Rattle.report_text.proofs.Vocabulary.{◌≡◌, ◌^◌, ℤ, pos, negsuc, ◌*ℤ◌, ◌≤ℤ◌, arith, ◌<◌, ◌≤◌, ◌⊎◌, ℕ, nat_abs, Bool, true, false, inl, inr, List, [], ◌∷◌, length, if◌then◌else◌, Option, Some, None, codes, drop, get_or, refl, sym, ap, ◌∙◌, subst, signed_decimal, AllByRecursion, one-le-mul, ints, Fraction, HasSizeBelow, fraction_text, quotient_text, IsLowest, SpellsWhole, HaveSmallSizes, few_digits, lowest_sizes, no_fraction_minus, one_decimal, one_fraction_text, one_number_text, one_quotient_text, one_whole, quotient_some, quotient_text_spelled, Tech, IsBelow, IsSmallPeriod, Circuit, Version, First, Second, register_name, signal_name, Words, slack_text, IsSmallSlack, one_register, one_signal, scale_in, IsSmallScale, Field, AreFewSteps, IsFractionForm, IsWholeSteps, LineHasFlaw, NamesRegister, WordHasFlaw, version_text}
 use Rattle.std.proofs.lemmas.Nat.{mul-le}
 use Rattle.std.proofs.Props.{props}
 use Rattle.report_text.specs.LineFields as field
@@ -69,7 +69,7 @@ Value due = Unit {0}
 
 -- its word
 abbrev pub spell : Circuit → (due : Field) → Value due → List ℕ
-spell circuit (field.Word keyword) value = keyword_text keyword
+spell circuit (field.Word keyword) value = keyword
 spell circuit field.Version version = version_text version
 spell circuit field.Kind setup = if setup then codes "setup" else codes "hold"
 spell circuit (field.Exactly number) value = signed_decimal (pos number)

@@ -1,31 +1,27 @@
 -- A line of the timing without a flaw is that of a value, and the line of a value within the bounds
 -- has no flaw.
-use Rattle.report_text.proofs.Vocabulary.{if◌then◌else◌, ℤ, ◌≡◌, ◌<◌, ◌≤◌, ◌-◌, ◌^◌, ℕ, zero, suc, pos, Bool, true, false, cond, List, [], ◌∷◌, All, map, replicate, length, Option, Some, None, codes, refl, sym, ap, ◌∙◌, subst, arith, false_from_ne_true, ints, length-map, All-cons, All-nil, bytes_eq-Decides, signed_decimal, AllByRecursion, bytes_eq, Fraction, few_digits, no_fraction_minus, one_number_text, Circuit, Constraint, Version, First, Second, Lead, Zero, Tight, IsBelow, Words, constraint_line, count_line, line_for, period_line, register_line, IsBetweenRegisters, HasSmallWeight, LeadsAmong, IsSmallLead, lead_line, path_line, signal_name, version_line, IsSmallPeriod, AreSmallSlacks, Field, Keyword, Scale, Timed, LineHasFlaw, constraint_fields, is_word, register_fields, IsSmallCount, shown_line, keyword_text, IsFlawless, DenotesConstraint, DenotesLead, DenotesPath, DenotesPeriod, DenotesShow, IsSmallScale, DenotesTimed, DenotesVersion}
+use Rattle.report_text.proofs.Vocabulary.{if◌then◌else◌, ℤ, ◌≡◌, ◌<◌, ◌≤◌, ◌-◌, ◌^◌, ℕ, zero, suc, pos, Bool, true, false, cond, List, [], ◌∷◌, All, map, replicate, length, Option, Some, None, codes, refl, sym, ap, ◌∙◌, subst, arith, false_from_ne_true, ints, length-map, All-cons, All-nil, bytes_eq-Decides, signed_decimal, AllByRecursion, bytes_eq, Fraction, few_digits, no_fraction_minus, one_number_text, Circuit, Constraint, Version, First, Second, Lead, Zero, Tight, IsBelow, Words, constraint_line, count_line, line_for, period_line, register_line, IsBetweenRegisters, HasSmallWeight, LeadsAmong, IsSmallLead, lead_line, path_line, signal_name, version_line, IsSmallPeriod, AreSmallSlacks, Field, Scale, Timed, LineHasFlaw, constraint_fields, is_word, register_fields, IsSmallCount, shown_line, IsFlawless, DenotesConstraint, DenotesLead, DenotesPath, DenotesPeriod, IsSmallScale, DenotesTimed}
 use Rattle.std.proofs.lemmas.Fmt.{decimal_digit}
 use Rattle.report_text.specs.LineFields as field
-use Rattle.report_text.specs.declared.field.Keyword.TheVariants as word
-use Rattle.report_text.specs.declared.form.Form.TheVariants as form
+use Rattle.report_text.specs.LineForms as form
 use Rattle.report_text.proofs.ScanLemmas.{constraint_read, path_read, version_read}
 use Rattle.report_text.proofs.SpelledFields.{AdmitsEach, IsSmallField, Tells, Values, line_plain, line_spelled, small_number, spell_line, values_plain}
 
 -- ---- the first lines
 
-abbrev version_fields : List Field
-version_fields = field.Word word.Cts ∷ field.Version ∷ []
-
 abbrev period_fields : List Field
-period_fields = field.Word word.Period ∷ field.Period ∷ []
+period_fields = field.Word (codes "period") ∷ field.Period ∷ []
 
 -- the fields of a cycle's count, and of what shows the period, by whether the floor does
 abbrev cycle_fields : List Field
-cycle_fields = field.Word word.Cycle ∷ field.Number 1 9999 ∷ []
+cycle_fields = field.Word (codes "cycle") ∷ field.Number 1 9999 ∷ []
 
 abbrev pub shown_fields : (floor : Bool) → List Field
-shown_fields floor = cond floor (field.Word word.Floor ∷ []) cycle_fields
+shown_fields floor = cond floor (field.Word (codes "floor") ∷ []) cycle_fields
 
 module _ (circuit : Circuit) (scale : Scale) where
   pub version_found : (words : Words) → IsFlawless circuit scale form.Version words
-      → (version : Version) × DenotesVersion words version
+      → (version : Version) × words ≡ version_line version
   version_found words flawless = search (arith, line_spelled, version_read)
 
   pub version_plain : (version : Version)
@@ -45,11 +41,11 @@ module _ (circuit : Circuit) (scale : Scale) where
       values_plain circuit period_fields (tt, (period, tt)) (tt, (tt, tt)) (tt, (small, tt))
 
   pub show_found : (words : Words) → IsFlawless circuit scale form.Show words
-      → (count : Option ℕ) × DenotesShow words count
-  show_found words flawless = at (is_word words 0 word.Floor) flawless
+      → (count : Option ℕ) × ((words ≡ shown_line count) × IsSmallCount count)
+  show_found words flawless = at (is_word words 0 (codes "floor")) flawless
     where
       at : (floor : Bool) → LineHasFlaw circuit (shown_fields floor) words None
-          → (count : Option ℕ) × DenotesShow words count
+          → (count : Option ℕ) × ((words ≡ shown_line count) × IsSmallCount count)
       at true flawless = search (arith, line_spelled)
       at false flawless =
           let line = line_spelled circuit cycle_fields words (tt, (omega arith, tt)) flawless in
@@ -62,16 +58,16 @@ module _ (circuit : Circuit) (scale : Scale) where
       (tt, (omega arith, tt)) (tt, (small, tt))
 
   -- how many lines follow: the words are just these
-  pub count_found : (keyword : Keyword) (count : ℕ) (words : Words) → count < 10 ^ 37
+  pub count_found : (keyword : List ℕ) (count : ℕ) (words : Words) → count < 10 ^ 37
       → IsFlawless circuit scale (form.Count keyword count) words
-      → words ≡ count_line (keyword_text keyword) count
+      → words ≡ count_line keyword count
   count_found keyword count words less flawless =
       (line_spelled circuit (field.Word keyword ∷ field.Exactly count ∷ []) words
       (tt, (less, tt)) flawless).are
 
-  pub count_plain : (keyword : Keyword) (count : ℕ) → count < 10 ^ 37
+  pub count_plain : (keyword : List ℕ) (count : ℕ) → count < 10 ^ 37
       → IsFlawless circuit scale (form.Count keyword count)
-      (count_line (keyword_text keyword) count)
+      (count_line keyword count)
   count_plain keyword count less =
       values_plain circuit (field.Word keyword ∷ field.Exactly count ∷ []) (tt, (tt, tt))
       (tt, (less, tt)) (tt, (tt, tt))
@@ -132,17 +128,17 @@ constraint_plain circuit scale constraint between small =
 
 -- its fields, with a constraint, and by whether it has none
 abbrev tight_fields : List Field
-tight_fields = field.Word word.Lead ∷ field.Number 1 9999 ∷ constraint_fields
+tight_fields = field.Word (codes "lead") ∷ field.Number 1 9999 ∷ constraint_fields
 
 abbrev pub led_fields : (first : Bool) → List Field
-led_fields first = cond first (field.Word word.Lead ∷ field.Word word.Zero ∷ []) tight_fields
+led_fields first = cond first (field.Word (codes "lead") ∷ field.Word (codes "0") ∷ []) tight_fields
 
 small_tight : AllByRecursion IsSmallField tight_fields
 small_tight = (tt, (omega arith, small_constraint))
 
 pub lead_found : (circuit : Circuit) (scale : Scale) (words : Words)
     → IsFlawless circuit scale form.Lead words → (lead : Lead) × DenotesLead circuit words lead
-lead_found circuit scale words flawless = at (is_word words 1 word.Zero) flawless
+lead_found circuit scale words flawless = at (is_word words 1 (codes "0")) flawless
   where
     at : (zero : Bool) → LineHasFlaw circuit (led_fields zero) words None
         → (lead : Lead) × DenotesLead circuit words lead
@@ -219,8 +215,8 @@ register_plain circuit scale register timed small among below slacks =
 
 -- its fields, by whether it is printed, with so many signals
 abbrev pub way_fields : (dash : Bool) (count : ℕ) → List Field
-way_fields dash count = cond dash (field.Word word.Path ∷ field.Word word.Dash ∷ [])
-    (field.Word word.Path ∷ field.Counted count 65536 ∷ replicate count field.Signal)
+way_fields dash count = cond dash (field.Word (codes "path") ∷ field.Word (codes "-") ∷ [])
+    (field.Word (codes "path") ∷ field.Counted count 65536 ∷ replicate count field.Signal)
 
 small_signals : (count : ℕ) → AllByRecursion IsSmallField (replicate count field.Signal)
 small_signals zero = tt
@@ -249,7 +245,7 @@ signals_found circuit (suc count) values admitted =
 
 pub path_found : (circuit : Circuit) (scale : Scale) (words : Words)
     → IsFlawless circuit scale form.Path words → (path : List ℕ) × DenotesPath circuit words path
-path_found circuit scale words flawless = at (is_word words 1 word.Dash) flawless
+path_found circuit scale words flawless = at (is_word words 1 (codes "-")) flawless
   where
     at : (dash : Bool) → LineHasFlaw circuit (way_fields dash (length words - 2)) words None
         → (path : List ℕ) × DenotesPath circuit words path

@@ -1,9 +1,8 @@
 -- A line of the tree without a flaw is that of a value, and the line of a value within the bounds
 -- has no flaw.
-use Rattle.report_text.proofs.Vocabulary.{◌≡◌, ◌<◌, ◌≤◌, ◌+◌, ◌*◌, ◌-◌, ◌^◌, ◌++◌, nat_le, suc, zero, replicate, take, All, Bool, if◌then◌else◌, ℕ, ℤ, pos, List, [], ◌∷◌, get_or, length, None, true, false, refl, sym, ap, ◌∙◌, subst, codes, arith, le-leb, leb-true, Decides-eqb, drop_at, length-append, length-replicate, length-take, take_at, All-cons, All-nil, All-replicate, signed_decimal, AllByRecursion, flat_map, quotient_text, Circuit, Point, Show, Pair, Sink, Root, register_name, IsBelow, IsPointBelow, Words, IsMergeShow, IsSourceShow, ShowsAmong, origin, Field, Scale, MergeLine, NodeLine, SourceLine, LineHasFlaw, has_points, is_word, length_field, merge_fields, node_fields, pointed_fields, points_of, total_fields, IsFlawless, IsSmallScale, SaysMerge, SaysNode, SaysSource, SaysTotal, coordinates, merged_line, sourced_line}
+use Rattle.report_text.proofs.Vocabulary.{◌≡◌, ◌<◌, ◌≤◌, ◌+◌, ◌*◌, ◌-◌, ◌^◌, ◌++◌, nat_le, suc, zero, replicate, take, All, Bool, if◌then◌else◌, ℕ, ℤ, pos, List, [], ◌∷◌, get_or, length, None, true, false, refl, sym, ap, ◌∙◌, subst, codes, arith, le-leb, leb-true, Decides-eqb, drop_at, length-append, length-replicate, length-take, take_at, All-cons, All-nil, All-replicate, signed_decimal, AllByRecursion, flat_map, quotient_text, Circuit, Point, Show, Pair, Sink, Root, register_name, IsBelow, IsPointBelow, Words, IsMergeShow, IsSourceShow, ShowsAmong, origin, Field, Scale, MergeLine, NodeLine, SourceLine, LineHasFlaw, has_points, is_word, length_field, merge_fields, node_fields, pointed_fields, points_of, total_fields, IsFlawless, IsSmallScale, SaysMerge, SaysNode, SaysSource, coordinates, merged_line, sourced_line, wire_line}
 use Rattle.report_text.specs.LineFields as field
-use Rattle.report_text.specs.declared.field.Keyword.TheVariants as word
-use Rattle.report_text.specs.declared.form.Form.TheVariants as form
+use Rattle.report_text.specs.LineForms as form
 use Rattle.report_text.proofs.WordBytes.{both}
 use Rattle.report_text.proofs.NameNumbers.{named_register}
 use Rattle.report_text.proofs.SpelledFields.{IsSmallField, Tells, line_plain, line_spelled, values_plain}
@@ -15,11 +14,12 @@ small_length scale small = (small.some_grid, small.small_grid, omega arith)
 -- ---- the whole wire
 
 pub total_found : (circuit : Circuit) (scale : Scale) (words : Words) → IsSmallScale scale
-    → IsFlawless circuit scale form.Total words → (total : ℤ) × SaysTotal scale.grid words total
+    → IsFlawless circuit scale form.Total words → (total : ℤ)
+    × ((words ≡ wire_line scale.grid total) × IsBelow (10 ^ 36) total)
 total_found circuit scale words small flawless =
     let line = line_spelled circuit (total_fields scale) words
     (tt, ((small.some_grid, small.small_grid, omega arith), tt)) flawless in
-    (line.values.1.0, record { words_are = line.are; small = line.admitted.1.0 })
+    (line.values.1.0, (line.are, line.admitted.1.0))
 
 pub total_plain : (circuit : Circuit) (scale : Scale) (total : ℤ) → IsSmallScale scale
     → IsBelow (10 ^ 36) total
@@ -83,13 +83,13 @@ merge_plain circuit scale node words line small below says =
 
 -- its fields, by whether the root shows it
 abbrev pub shown_fields : Scale → (root : Bool) → List Field
-shown_fields scale root = field.Word word.Source ∷ length_field scale
-    ∷ (if root then field.Word word.Root ∷ [] else field.Word word.Sink ∷ field.Register ∷ [])
+shown_fields scale root = field.Word (codes "source") ∷ length_field scale
+    ∷ (if root then field.Word (codes "root") ∷ [] else field.Word (codes "sink") ∷ field.Register ∷ [])
 
 pub source_found : (circuit : Circuit) (scale : Scale) (words : Words) → IsSmallScale scale
     → IsFlawless circuit scale form.Source words
     → (line : SourceLine) × SaysSource circuit scale.grid words line
-source_found circuit scale words small flawless = at (is_word words 2 word.Root) flawless
+source_found circuit scale words small flawless = at (is_word words 2 (codes "root")) flawless
   where
     at : (root : Bool) → LineHasFlaw circuit (shown_fields scale root) words None
         → (line : SourceLine) × SaysSource circuit scale.grid words line

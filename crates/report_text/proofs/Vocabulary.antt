@@ -1,5 +1,5 @@
 -- The words that the proofs of this crate have in common.
-pub use Rattle.std.proofs.Common.{◌≡◌, ◌<◌, ◌≤◌, ◌-◌, ◌*◌, ◌^◌, ℕ, List, All, Option, Some, None, length, map, refl, sym, ap, arith, ◌+◌, ℤ, pos, neg_ℤ, to_z, of_z, [], ◌∷◌, ◌++◌, get_or, codes, ap₂, ◌∙◌, subst, append_assoc, drop, append-nil, slice_get, length-append, ◌%◌, zero, suc, negsuc, ◌*ℤ◌, ◌+ℤ◌, ◌≤ℤ◌, nat_abs, inl, inr, ◌↔◌, ◌<ℤ◌, Bool, IsTrue, Result, Ok, Err, IsErrAnd, ◌⊎◌, ◌==◌, true, false, true≢false, position, IfOk, IfErr, ◌&&◌, cond, FitsSigned, ne_eqb, ◌≢◌, if◌then◌else◌, take, MatchBool, MatchOption, replicate, nat_le, set, drop-cons, nat_lt, lt-ltb, eq-eqb, ◌/◌, ◌||◌, rules, tests, Bor, slice_index_or}
+pub use Rattle.std.proofs.Common.{unwrap_or, ◌≡◌, ◌<◌, ◌≤◌, ◌-◌, ◌*◌, ◌^◌, ℕ, List, All, Option, Some, None, length, map, refl, sym, ap, arith, ◌+◌, ℤ, pos, neg_ℤ, to_z, of_z, [], ◌∷◌, ◌++◌, get_or, codes, ap₂, ◌∙◌, subst, append_assoc, drop, append-nil, slice_get, length-append, ◌%◌, zero, suc, negsuc, ◌*ℤ◌, ◌+ℤ◌, ◌≤ℤ◌, nat_abs, inl, inr, ◌↔◌, ◌<ℤ◌, Bool, IsTrue, Result, Ok, Err, IsErrAnd, ◌⊎◌, ◌==◌, true, false, true≢false, position, IfOk, IfErr, ◌&&◌, cond, FitsSigned, ne_eqb, ◌≢◌, if◌then◌else◌, take, MatchBool, MatchOption, replicate, nat_le, set, drop-cons, nat_lt, lt-ltb, eq-eqb, ◌/◌, ◌||◌, rules, tests, Bor, slice_index_or}
 pub use Rattle.std.proofs.Math.Nat.{mul-div_cancel', dvd-mul_right, one-le-mul}
 pub use Rattle.std.proofs.lemmas.Bool.{cases_lt, false_from_ne_true, le-leb, leb-true}
 pub use Rattle.std.proofs.lemmas.Bool.Decides.{Decides-eqb, Decides-int_eq, nat_tests}
@@ -34,6 +34,7 @@ pub use Rattle.cts_model.specs.declared.period.PeriodShow.{PeriodShow}
 pub use Rattle.cts_model.specs.declared.period.PeriodShow.TheVariants.{Cycle, Floor}
 pub use Rattle.cts_model.specs.declared.schedule.Lead.TheVariants.{Zero, Tight}
 pub use Rattle.cts_model.specs.declared.signal.Signal.{Signal}
+pub use Rattle.cts_model.specs.declared.tree.Show.{Show}
 pub use Rattle.cts_model.specs.declared.tree.Show.TheVariants.{Root, Pair, Sink}
 pub use Rattle.cts_model.specs.netlist.Circuits.{host_name, is_named, has_host}
 pub use Rattle.cts_model.specs.netlist.Kinds.{is_host}
@@ -41,16 +42,13 @@ pub use Rattle.cts_model.specs.report.ReportBounds.{HasTreeBounds}
 pub use Rattle.cts_model.specs.text.Names.{is_name, is_short, is_name_byte}
 pub use Rattle.cts_model.specs.tree.Topologies.{root_of, source_of}
 pub use Rattle.name_set.proofs.OneName.{one_register, one_signal, few_registers}
-pub use Rattle.report_text.specs.Common.{signed_decimal, range_with_len, flat_map, list_any, slice_split, after_first, position_or_len, bytes_eq, digits_value, IsLowest, fraction_text, HasSizeBelow, SpellsWhole, SpellsQuotient, HaveSmallSizes, IsNoFraction, is_slash, Fraction, Circuit, Constraint, Point, Report, Version, First, Second, Lead, Tech, Show, Wire, register_name, IsBelow, IsPointBelow, HasSmallWeight, HasSmallWeights, IsBetweenRegisters, ShowsPeriodAmong, count_in, cycle_length, HasTimingBounds, IsMergeShow, IsOfSize, IsSmallWire, IsSourceShow, IsWithinBounds, ShowsAmong, Spells, LeadsAmong, IsSmallLead, lead_line, lines_below, merge_line_at, no_wire, node_line_at, origin, period_show_lines, register_line_at, report_lines, show_words, source_line, timing_lines, tree_lines, version_line, path_line, signal_name, number_at, length_text, pathed_lines, point_words, wire_words, Words, line_for, count_line, period_line, register_line, text_of, line_of, constraint_line, slack_text, IsSmallPeriod, arrival_of, AreSmallSlacks, IsSmallSlack, grid_of, scheduled_length, register_names, ReportFault, NoMemory, Extra, BadLine, Missing, Flaw, Keyword, Form, Scale, Heading, Parts, Timed, MergeLine, NodeLine, SourceLine}
-pub use Rattle.report_text.specs.Vocabulary.{HasBody, arrivals_in, begin_of, lengths_in, merges_in, places_in, reaches_in, report_denoted, sink_reaches, wires_in, AreSteps, WordHasFlaw, sooner_flaw, rank, cycle_forms, forms_after, register_named, constraint_fields, length_field, is_word, slack_field, IsSmallCount, count_of, HasHeading, HasShown, heading_forms, HasStepsFlaw, IsBetween, IsNegativeQuotient, IsRefusedFor, keyword_text, version_text, HasFaultOrReport, OneReport, DenotesRegister, DenotesSignal, signal_names, HasParts, scale_in, whole, suffix, is_line_feed, words_of, HasFault, fault_of, HasPathed, HasRows, Counted, flaw_in, EndsIn, Keeps, LineLeft, ReadsForm, Takes, TakesNext, DenotesTimed, DenotesConstraint, DenotesLead, DenotesPeriod, DenotesShow, DenotesPath, SaysMerge, SaysNode, SaysSource, IsSmallScale, SaysTotal, coordinates, Left, ReadsLine, Stops, DenotesLine, DenotesVersion, TakesLine, StopsLine}
-pub use Rattle.report_text.specs.DenotedReports.{timed_line, denoted_lines, shows_in, sink_reach, lines_after}
+pub use Rattle.report_text.specs.Common.{signed_decimal, range_with_len, flat_map, list_any, slice_split, after_first, position_or_len, bytes_eq, digits_value, IsLowest, fraction_text, HasSizeBelow, SpellsWhole, SpellsQuotient, HaveSmallSizes, IsNoFraction, is_slash, Fraction, Circuit, Constraint, Point, Report, Version, First, Second, Lead, Tech, Wire, register_name, IsBelow, IsPointBelow, HasSmallWeight, HasSmallWeights, IsBetweenRegisters, ShowsPeriodAmong, count_in, cycle_length, HasTimingBounds, IsMergeShow, IsOfSize, IsSmallWire, IsSourceShow, IsWithinBounds, ShowsAmong, Spells, LeadsAmong, IsSmallLead, lead_line, lines_below, merge_line_at, no_wire, node_line_at, origin, period_show_lines, register_line_at, report_lines, show_words, source_line, timing_lines, tree_lines, version_line, path_line, signal_name, number_at, length_text, pathed_lines, point_words, wire_words, Words, line_for, count_line, period_line, register_line, text_of, line_of, constraint_line, slack_text, IsSmallPeriod, arrival_of, AreSmallSlacks, IsSmallSlack, grid_of, scheduled_length, register_names, ReportFault, NoMemory, Extra, BadLine, Missing, Flaw, Form, Scale, Heading, Parts, Timed, MergeLine, NodeLine, SourceLine}
+pub use Rattle.report_text.proofs.DenotedLines.{reaches_in, shows_in, places_in, timed_line, lines_after, denoted_lines, lines_of}
+pub use Rattle.report_text.specs.Vocabulary.{HasBody, begin_of, report_denoted, sink_reach, AreSteps, WordHasFlaw, sooner_flaw, rank, cycle_forms, forms_after, register_named, constraint_fields, length_field, is_word, slack_field, IsSmallCount, HasHeading, HasShown, HasStepsFlaw, IsBetween, IsNegativeQuotient, IsRefusedFor, version_text, HasFaultOrReport, OneReport, IsNumberOf, signal_names, HasParts, scale_in, whole, suffix, is_line_feed, words_of, HasFault, fault_of, HasPathed, HasRows, Counted, flaw_in, EndsIn, Keeps, LineLeft, ReadsForm, Takes, TakesNext, DenotesTimed, DenotesConstraint, DenotesLead, DenotesPeriod, DenotesPath, SaysMerge, SaysNode, SaysSource, IsSmallScale, wire_line, coordinates, Left, ReadsLine, Stops, DenotesLine, TakesLine, StopsLine}
 pub use Rattle.report_text.specs.Fields.{AreFewSteps, IsFormed, IsFractionForm, IsWholeSteps, IsFirstFlaw, LineHasFlaw, NamesRegister, NamesSignal, EachWord, IsFit, IsKnown, IsWithin}
 pub use Rattle.report_text.specs.Forms.{lead_forms, forms_of, fields_of, register_fields, has_points, merge_fields, node_fields, pointed_fields, points_of, total_fields}
 pub use Rattle.report_text.specs.LineFields.{Period, Steps, Field, Register}
 pub use Rattle.report_text.specs.ReportFaults.{HasFirstFault, cycle_denoted, den_denoted, scale_denoted, version_denoted, word_at, is_space}
-pub use Rattle.report_text.specs.Rows.{lines_of, SayEach}
-pub use Rattle.report_text.specs.Scans.{Taken}
-pub use Rattle.report_text.specs.TimingValues.{IsFlawless, shown_line}
-pub use Rattle.report_text.specs.Values.{merged_line, placed_line, sourced_line}
-pub use Rattle.report_text.specs.Walks.{Reads}
+pub use Rattle.report_text.specs.Walks.{IsFlawless, SayEach, Reads}
+pub use Rattle.report_text.specs.Values.{shown_line, merged_line, placed_line, sourced_line}
 pub use Rattle.report_text.specs.declared.field.Flaw.TheVariants.{Unknown, Unfit, Large}

@@ -1,9 +1,8 @@
 -- A text spells one report at the most and has one fault at the most, and none where it spells one;
 -- so what is read of it is that report, and a text with a fault is refused for that fault.
-use Rattle.report_text.proofs.Vocabulary.{◌≡◌, ◌<◌, ◌≤◌, ◌+◌, ◌^◌, ℕ, suc, pos, Bool, true, false, cond, List, [], ◌∷◌, ◌++◌, All, map, take, drop, get_or, length, codes, refl, sym, ap, ap₂, ◌∙◌, subst, arith, ◌-◌, ◌*◌, zero, None, ◌≢◌, ◌⊎◌, inl, inr, Option, Some, Result, Ok, Err, IfErr, IfOk, flat_map, range_with_len, length-drop, same_lists, take-append-drop, same_Some, quotient_text, Circuit, Constraint, PeriodShow, Cycle, Floor, Point, Version, First, Second, Lead, Zero, Tight, Tech, Show, Pair, Sink, Root, Wire, IsPointBelow, HasSmallWeight, IsBetweenRegisters, IsSmallWire, ShowsAmong, HasSmallWeights, count_in, Spells, lead_line, path_line, pathed_lines, period_show_lines, show_words, version_line, Words, count_line, line_for, line_of, period_line, text_of, Report, one_register, one_signal, few_registers, Scale, Parts, Timed, MergeLine, NodeLine, SourceLine, denoted_lines, timed_line, lines_after, report_denoted, constraint_fields, length_field, slack_field, cycle_forms, forms_after, forms_of, lead_forms, scale_in, lines_of, DenotesConstraint, DenotesLead, IsFlawless, IsSmallScale, SaysMerge, SaysNode, SaysSource, coordinates, merged_line, placed_line, sourced_line, DenotesTimed, Left, Form, IsSmallCount, count_of, shown_line, HasFault, HasFirstFault, cycle_denoted, version_denoted, ReportFault, NoMemory, OneReport}
+use Rattle.report_text.proofs.Vocabulary.{◌≡◌, ◌<◌, ◌≤◌, ◌+◌, ◌^◌, ℕ, suc, pos, Bool, true, false, cond, List, [], ◌∷◌, ◌++◌, All, map, take, drop, get_or, length, codes, refl, sym, ap, ap₂, ◌∙◌, subst, arith, ◌-◌, ◌*◌, zero, None, ◌≢◌, ◌⊎◌, inl, inr, Option, Some, Result, Ok, Err, IfErr, IfOk, flat_map, range_with_len, length-drop, same_lists, take-append-drop, same_Some, quotient_text, Circuit, Constraint, PeriodShow, Cycle, Floor, Point, Version, First, Second, Lead, Zero, Tight, Tech, Show, Pair, Sink, Root, Wire, IsPointBelow, HasSmallWeight, IsBetweenRegisters, IsSmallWire, ShowsAmong, HasSmallWeights, count_in, Spells, lead_line, path_line, pathed_lines, period_show_lines, show_words, version_line, Words, count_line, line_for, line_of, period_line, text_of, Report, one_register, one_signal, few_registers, Scale, Parts, Timed, MergeLine, NodeLine, SourceLine, denoted_lines, timed_line, lines_after, report_denoted, constraint_fields, length_field, slack_field, cycle_forms, forms_after, forms_of, lead_forms, scale_in, lines_of, DenotesConstraint, DenotesLead, IsFlawless, IsSmallScale, SaysMerge, SaysNode, SaysSource, coordinates, merged_line, placed_line, sourced_line, DenotesTimed, Left, Form, IsSmallCount, shown_line, HasFault, HasFirstFault, cycle_denoted, version_denoted, ReportFault, NoMemory, OneReport, unwrap_or}
 use Rattle.report_text.specs.LineFields as field
-use Rattle.report_text.specs.declared.field.Keyword.TheVariants as word
-use Rattle.report_text.specs.declared.form.Form.TheVariants as form
+use Rattle.report_text.specs.LineForms as form
 use Rattle.report_text.proofs.AssemblyLemmas.{after_apart, ArePrintable, IsPrintableShow, IsTold, count_shown, cycle_told}
 use Rattle.report_text.proofs.SpelledFields.{scale_small, IsSmallField, Values, one_value, one_values}
 use Rattle.report_text.proofs.RowLemmas.{plain_lines, one_form}
@@ -387,10 +386,9 @@ module _ (circuit : Circuit) (scale : Scale) where
   -- there are as many lines as forms, and each is without a flaw by its form
   abbrev AreFlawless : List Form → List Words → Type 0
   AreFlawless [] [] = Unit {0}
-  AreFlawless [] (words ∷ lines) = ⊥
-  AreFlawless (due ∷ forms) [] = ⊥
   AreFlawless (due ∷ forms) (words ∷ lines) =
       IsFlawless circuit scale due words × AreFlawless forms lines
+  AreFlawless forms lines = ⊥
 
   -- their text has no fault
   no_first_fault : (forms : List Form) (lines : List Words) (line : ℕ) → AreLines lines
@@ -453,7 +451,7 @@ module _ (circuit : Circuit) (scale : Scale) where
 
     shown_flawless : (version : Version) (shown : PeriodShow) (paths : List (List ℕ))
         → IsPrintableShow circuit version shown paths
-        → AreFlawless (form.Show ∷ (cycle_forms version (count_of (count_shown shown)) ++ more))
+        → AreFlawless (form.Show ∷ (cycle_forms version (unwrap_or (count_shown shown) 0) ++ more))
         (period_show_lines version circuit shown paths ++ rest)
     shown_flawless First (Cycle cycle) paths is = (
       show_plain circuit scale (count_shown (Cycle cycle)) (small_shown (Cycle cycle) is.weights),
@@ -482,7 +480,7 @@ module _ {circuit : Circuit} {tech : Tech} {parts : Parts}
   count = length circuit.registers
 
   parts_flawless : AreFlawless circuit scale
-      (forms_of parts.heading.version (count_of (count_shown parts.shown.shown)) count)
+      (forms_of parts.heading.version (unwrap_or (count_shown parts.shown.shown) 0) count)
       (denoted_lines circuit scale parts)
   parts_flawless =
       let small = scale_small tech parts.heading.period is.period in
@@ -498,7 +496,7 @@ module _ {circuit : Circuit} {tech : Tech} {parts : Parts}
       let nodes : AreFlawless circuit scale nodes_forms nodes_lines = (
         source_plain circuit scale _ parts.body.source small is.source,
         (
-          count_plain circuit scale word.Nodes (2 * count - 1) (omega (arith, few)),
+          count_plain circuit scale (codes "nodes") (2 * count - 1) (omega (arith, few)),
           rows_flawless circuit scale (form.Total ∷ []) last
               (total_plain circuit scale parts.body.total.length small is.total, tt) form.Node
               (SaysNode scale.grid) (placed_line scale.grid) 0 (2 * count - 1) parts.body.placed
@@ -507,7 +505,7 @@ module _ {circuit : Circuit} {tech : Tech} {parts : Parts}
         ),
       ) in
       let merges : AreFlawless circuit scale (merge_forms count ++ nodes_forms) merges_lines = (
-        count_plain circuit scale word.Merges (count - 1) (omega (arith, few)),
+        count_plain circuit scale (codes "merges") (count - 1) (omega (arith, few)),
         rows_flawless circuit scale nodes_forms nodes_lines nodes form.Merge
             (SaysMerge circuit scale.grid) (merged_line circuit scale.grid) count (count - 1)
             parts.body.merged is.merged_many is.merged (λ number row within says.
@@ -520,7 +518,7 @@ module _ {circuit : Circuit} {tech : Tech} {parts : Parts}
       let registers : AreFlawless circuit scale (register_forms count ++ leads_forms)
       (count_line (codes "registers") count
       ∷ (lines_of (timed_line circuit scale.den) 0 parts.body.timings ++ leads_lines)) = (
-        count_plain circuit scale word.Registers count (omega (arith, few)),
+        count_plain circuit scale (codes "registers") count (omega (arith, few)),
         rows_flawless circuit scale leads_forms leads_lines
             (leads_flawless circuit scale (merge_forms count ++ nodes_forms) merges_lines merges
             parts.heading.version count parts.body.leads is.leads_many is.leads) form.Register
@@ -556,8 +554,8 @@ module _ {circuit : Circuit} {tech : Tech} {parts : Parts}
       parts.shown.shown parts.shown.paths)) (sym is.count))) is.period
       (subst IsSmallCount (sym is.count) (small_shown parts.shown.shown is.shown.weights)) circuit
       tech None (subst (λ counted. HasFirstFault circuit scale (forms_of parts.heading.version
-      (count_of counted) count) 1 (text_of lines) None) (sym is.count) (no_first_fault circuit scale
-      (forms_of parts.heading.version (count_of (count_shown parts.shown.shown)) count) lines 1 are
+      (unwrap_or counted 0) count) 1 (text_of lines) None) (sym is.count) (no_first_fault circuit scale
+      (forms_of parts.heading.version (unwrap_or (count_shown parts.shown.shown) 0) count) lines 1 are
       parts_flawless))
 
 -- two reports of a text are the same

@@ -1,5 +1,6 @@
 -- The words that the definitions of this crate have in common.
 pub use Rattle.cts_base.specs.Fractions.{quotient_text, HasSizeBelow, IsLowest, fraction_text}
+pub use Rattle.cts_base.specs.Lines.{is_line_feed}
 pub use Rattle.cts_base.specs.NumberTexts.{SpellsWhole, SpellsQuotient, HaveSmallSizes, IsLargeQuotient, IsNoFraction, is_slash}
 pub use Rattle.cts_base.specs.declared.fraction.Fraction.{Fraction}
 pub use Rattle.cts_model.specs.declared.circuit.Circuit.{Circuit}
@@ -9,10 +10,7 @@ pub use Rattle.cts_model.specs.declared.report.Report.{Report}
 pub use Rattle.cts_model.specs.declared.report.Version.TheVariants.{First, Second}
 pub use Rattle.cts_model.specs.declared.report.Version.{Version}
 pub use Rattle.cts_model.specs.declared.schedule.Lead.{Lead}
-pub use Rattle.cts_model.specs.declared.schedule.Slack.{Slack}
 pub use Rattle.cts_model.specs.declared.tech.Tech.{Tech}
-pub use Rattle.cts_model.specs.declared.tree.Merge.{Merge}
-pub use Rattle.cts_model.specs.declared.tree.Show.{Show}
 pub use Rattle.cts_model.specs.declared.tree.Wire.{Wire}
 pub use Rattle.cts_model.specs.netlist.Paths.{register_name}
 pub use Rattle.cts_model.specs.placement.Points.{IsBelow, IsPointBelow}
@@ -27,9 +25,8 @@ pub use Rattle.name_set.specs.RegisterNames.{register_names}
 pub use Rattle.report_text.specs.declared.fault.ReportFault.TheVariants.{BadLine, UnknownRegister, Missing, Extra, TooLarge, UnknownSignal, NoMemory}
 pub use Rattle.report_text.specs.declared.fault.ReportFault.{ReportFault}
 pub use Rattle.report_text.specs.declared.field.Flaw.{Flaw}
-pub use Rattle.report_text.specs.declared.field.Keyword.{Keyword}
-pub use Rattle.report_text.specs.declared.form.Form.{Form}
-pub use Rattle.report_text.specs.declared.form.Scale.{Scale}
+pub use Rattle.report_text.specs.LineForms.{Form}
+pub use Rattle.report_text.specs.declared.field.Scale.{Scale}
 pub use Rattle.report_text.specs.declared.sections.Body.{Body}
 pub use Rattle.report_text.specs.declared.sections.Heading.{Heading}
 pub use Rattle.report_text.specs.declared.sections.Parts.{Parts}

@@ -1,13 +1,10 @@
--- What a word of a report's line has to be, and what is wrong with it first. The forms are this
--- project's choice.
-use Rattle.std.specs.Prelude.{◌≡◌, ◌⊎◌, ◌<◌, ◌≤◌, ◌^◌, ℕ, ℤ, pos, ◌≤ℤ◌, ◌<ℤ◌, ◌+ℤ◌, ◌*ℤ◌, Option, Some, None, List, [], ◌∷◌, length, codes}
-use Rattle.report_text.specs.Common.{HasSizeBelow, IsLowest, SpellsWhole, SpellsQuotient, HaveSmallSizes, Circuit, register_name, signal_name, Flaw}
+-- What a word of a report's line has to be, by this project's choice, and its first flaw.
+use Rattle.std.specs.Prelude.{List, None, Option, Some, [], codes, length, map, pos, ℕ, ℤ, ◌*ℤ◌, ◌+ℤ◌, ◌<ℤ◌, ◌<◌, ◌^◌, ◌∷◌, ◌≡◌, ◌≤ℤ◌, ◌≤◌, ◌⊎◌}
+use Rattle.report_text.specs.Common.{HasSizeBelow, IsLowest, SpellsWhole, SpellsQuotient, HaveSmallSizes, IsLargeQuotient, IsNoFraction, Circuit, register_name, signal_name, Flaw, range_with_len}
 use Rattle.report_text.specs.declared.field.Flaw.TheVariants as flaws
 use Rattle.report_text.specs.LineFields.{Field, Word, Version, Kind, Exactly, Number, Counted, Weight, Period, Steps, Slack, Register, Named, From, Signal}
-use Rattle.report_text.specs.Keywords.{keyword_text}
 
--- the text has the form of a fraction; one with a number of 10^37 or more in size is judged without
--- its lowest terms
+-- the text has the form of a fraction; lowest terms are asked only of numbers below 10^37 in size
 abbrev pub IsFractionForm : List ℕ → (num den : ℤ) → Type 0
 IsFractionForm text num den = SpellsQuotient text num den
     × (HaveSmallSizes num den → IsLowest num den)
@@ -18,7 +15,7 @@ AreSteps over num den steps = (num *ℤ over) ≡ (steps *ℤ den)
 
 -- first, the word has the form that its place asks
 abbrev pub IsFormed : Field → List ℕ → Type 0
-IsFormed (Word keyword) text = text ≡ keyword_text keyword
+IsFormed (Word word) text = text ≡ word
 IsFormed Version text = (text ≡ codes "1") ⊎ (text ≡ codes "2")
 IsFormed Kind text = (text ≡ codes "setup") ⊎ (text ≡ codes "hold")
 IsFormed (Exactly number) text = SpellsWhole text (pos number)
@@ -93,12 +90,42 @@ WordHasFlaw circuit field text flaw = IsFirstFlaw (IsFormed field text)
 -- something holds of each field and its word, and there are as many words
 abbrev pub EachWord : (Field → List ℕ → Type 0) → List Field → List (List ℕ) → Type 0
 EachWord Holds [] [] = Unit {0}
-EachWord Holds [] (word ∷ words) = ⊥
-EachWord Holds (field ∷ fields) [] = ⊥
 EachWord Holds (field ∷ fields) (word ∷ words) = Holds field word × EachWord Holds fields words
+EachWord Holds fields words = ⊥
 
 -- what is wrong with a line of such fields: first with the form of any word, and so on
 abbrev pub LineHasFlaw : Circuit → List Field → List (List ℕ) → Option Flaw → Type 0
 LineHasFlaw circuit fields words flaw = IsFirstFlaw (EachWord IsFormed fields words)
     (EachWord (IsKnown circuit) fields words) (EachWord (IsFit circuit) fields words)
     (EachWord IsWithin fields words) flaw
+
+-- the text has the form of a quotient below 0
+abbrev pub IsNegativeQuotient : List ℕ → Type 0
+IsNegativeQuotient text = (num : ℤ) × (den : ℤ) × SpellsQuotient text num den × (num <ℤ pos 0)
+
+-- a text that is no small fraction has this flaw
+abbrev pub IsRefusedFor : List ℕ → Flaw → Type 0
+IsRefusedFor text flaws.Form = IsNoFraction text
+IsRefusedFor text flaws.Large = IsLargeQuotient text
+IsRefusedFor text flaw = ⊥
+
+-- the number is below the bound, and above what is as far below 0
+abbrev pub IsBetween : (bound number : ℤ) → Type 0
+IsBetween bound number = (number <ℤ bound) × (pos 0 <ℤ (number +ℤ bound))
+
+-- what is wrong with a quotient that is to be a number of steps below a bound in size
+abbrev pub HasStepsFlaw : (over bound num den : ℤ) → Option Flaw → Type 0
+HasStepsFlaw over bound num den flaw = IsFirstFlaw (Unit {0}) (Unit {0})
+    ((steps : ℤ) × AreSteps over num den steps)
+    ((steps : ℤ) → AreSteps over num den steps
+    → (bound ≤ℤ steps → ⊥) × ((steps +ℤ bound) ≤ℤ pos 0 → ⊥)) flaw
+
+-- the names of the circuit's signals, in order
+abbrev pub signal_names : Circuit → List (List ℕ)
+signal_names circuit = map (signal_name circuit) (range_with_len 0 (length circuit.signals))
+
+-- the number that has that name of so many, or that none has it
+abbrev pub IsNumberOf : (name_of : ℕ → List ℕ) (count : ℕ) → List ℕ → Option ℕ → Type 0
+IsNumberOf name_of count name None =
+    ((number : ℕ) × (number < count) × (name_of number ≡ name)) → ⊥
+IsNumberOf name_of count name (Some number) = (number < count) × (name_of number ≡ name)

@@ -1,16 +1,17 @@
--- Which fields a line of each form has, and which forms a report's lines have in order. Where a
--- form has several kinds of lines, a fixed word denotes which. The forms are this project's choice.
-use Rattle.std.specs.Prelude.{ℕ, zero, suc, ◌+◌, ◌-◌, ◌*◌, ◌/◌, ◌^◌, ◌==◌, ◌&&◌, nat_le, Bool, pos, List, [], ◌∷◌, ◌++◌, length, map, replicate, get_or, if◌then◌else◌}
-use Rattle.report_text.specs.Common.{count_in, position_or_len, range_with_len, bytes_eq, Circuit, Version, register_name, Keyword, Form, Scale, First, Second}
-use Rattle.report_text.specs.declared.field.Keyword.TheVariants as word
-use Rattle.report_text.specs.declared.form.Form.TheVariants as form
-use Rattle.report_text.specs.LineFields.{Field}
-use Rattle.report_text.specs.Keywords.{keyword_text}
+-- The fixed words and the forms of a report's lines. They are this project's choice.
+use Rattle.std.specs.Prelude.{Bool, List, [], codes, get_or, if◌then◌else◌, length, map, nat_le, pos, replicate, suc, zero, ℕ, ◌&&◌, ◌*◌, ◌++◌, ◌+◌, ◌-◌, ◌/◌, ◌==◌, ◌^◌, ◌∷◌}
+use Rattle.report_text.specs.Common.{Circuit, First, Second, Version, register_name, count_in, Form, Scale, position_or_len, range_with_len, bytes_eq}
+use Rattle.report_text.specs.LineForms as form
 use Rattle.report_text.specs.LineFields as field
 
--- the word at a place is that fixed one
-abbrev pub is_word : List (List ℕ) → ℕ → Keyword → Bool
-is_word words place keyword = bytes_eq (get_or words place []) (keyword_text keyword)
+-- the word of a version
+abbrev pub version_text : Version → List ℕ
+version_text First = codes "1"
+version_text Second = codes "2"
+
+-- the word at a place is that one
+abbrev pub is_word : List (List ℕ) → ℕ → (word : List ℕ) → Bool
+is_word words place word = bytes_eq (get_or words place []) word
 
 -- the number of the register of that name, and how many there are where none has it
 abbrev pub register_named : Circuit → List ℕ → ℕ
@@ -19,40 +20,40 @@ register_named circuit name = position_or_len
     (range_with_len 0 (length circuit.registers))
 
 -- a length, in grid steps
-abbrev pub length_field : Scale → Field
+abbrev pub length_field : Scale → field.Field
 length_field scale = field.Steps scale.grid (pos (10 ^ 32))
 
-abbrev pub slack_field : Scale → Field
+abbrev pub slack_field : Scale → field.Field
 slack_field scale = field.Slack scale.den (pos (10 ^ 20))
 
 -- setup or hold, the register that launches, the one that captures, and the weight
-abbrev pub constraint_fields : List Field
+abbrev pub constraint_fields : List field.Field
 constraint_fields = field.Kind ∷ field.Register ∷ field.Register ∷ field.Weight ∷ []
 
 -- a path has as many signals as it says, or isn't printed
-abbrev pub path_fields : List (List ℕ) → List Field
-path_fields words = if is_word words 1 word.Dash
-    then field.Word word.Path ∷ field.Word word.Dash ∷ []
-    else field.Word word.Path ∷ field.Counted (length words - 2) 65536
+abbrev pub path_fields : List (List ℕ) → List field.Field
+path_fields words = if is_word words 1 (codes "-")
+    then field.Word (codes "path") ∷ field.Word (codes "-") ∷ []
+    else field.Word (codes "path") ∷ field.Counted (length words - 2) 65536
     ∷ replicate (length words - 2) field.Signal
 
-abbrev pub lead_fields : List (List ℕ) → List Field
-lead_fields words = if is_word words 1 word.Zero
-    then field.Word word.Lead ∷ field.Word word.Zero ∷ []
-    else field.Word word.Lead ∷ field.Number 1 9999 ∷ constraint_fields
+abbrev pub lead_fields : List (List ℕ) → List field.Field
+lead_fields words = if is_word words 1 (codes "0")
+    then field.Word (codes "lead") ∷ field.Word (codes "0") ∷ []
+    else field.Word (codes "lead") ∷ field.Number 1 9999 ∷ constraint_fields
 
-abbrev pub merge_fields : Circuit → Scale → (node : ℕ) → List (List ℕ) → List Field
+abbrev pub merge_fields : Circuit → Scale → (node : ℕ) → List (List ℕ) → List field.Field
 merge_fields circuit scale node words = field.Exactly node ∷ field.Number 0 9999
-    ∷ field.Number 0 9999 ∷ length_field scale ∷ field.Word word.Pair ∷ field.Register
+    ∷ field.Number 0 9999 ∷ length_field scale ∷ field.Word (codes "pair") ∷ field.Register
     ∷ field.From (register_named circuit (get_or words 5 [])) ∷ []
 
-abbrev pub source_fields : Scale → List (List ℕ) → List Field
-source_fields scale words = field.Word word.Source ∷ length_field scale
-    ∷ (if is_word words 2 word.Root
-    then field.Word word.Root ∷ [] else field.Word word.Sink ∷ field.Register ∷ [])
+abbrev pub source_fields : Scale → List (List ℕ) → List field.Field
+source_fields scale words = field.Word (codes "source") ∷ length_field scale
+    ∷ (if is_word words 2 (codes "root")
+    then field.Word (codes "root") ∷ [] else field.Word (codes "sink") ∷ field.Register ∷ [])
 
 -- a node's place, the length of its edge, and 1 to 5 points, by the number of words
-abbrev pub node_fields : Scale → (node points : ℕ) → List Field
+abbrev pub node_fields : Scale → (node points : ℕ) → List field.Field
 node_fields scale node points = field.Exactly node ∷ length_field scale ∷ length_field scale
     ∷ length_field scale ∷ field.Exactly points ∷ replicate (2 * points) (length_field scale)
 
@@ -64,26 +65,26 @@ has_points words = (length words == 5 + 2 * points_of words)
     && (nat_le 1 (points_of words) && nat_le (points_of words) 5)
 
 -- what shows the period: the floor, or how many constraints the cycle has
-abbrev pub show_fields : List (List ℕ) → List Field
-show_fields words = if is_word words 0 word.Floor
-    then field.Word word.Floor ∷ [] else field.Word word.Cycle ∷ field.Number 1 9999 ∷ []
+abbrev pub show_fields : List (List ℕ) → List field.Field
+show_fields words = if is_word words 0 (codes "floor")
+    then field.Word (codes "floor") ∷ [] else field.Word (codes "cycle") ∷ field.Number 1 9999 ∷ []
 
-abbrev pub register_fields : Scale → (register : ℕ) → List Field
+abbrev pub register_fields : Scale → (register : ℕ) → List field.Field
 register_fields scale register = field.Named register
     ∷ field.Steps scale.den (pos (10 ^ 19)) ∷ slack_field scale ∷ slack_field scale ∷ []
 
 -- none where there is a number of words that no node has
-abbrev pub pointed_fields : Scale → (node : ℕ) → List (List ℕ) → List Field
+abbrev pub pointed_fields : Scale → (node : ℕ) → List (List ℕ) → List field.Field
 pointed_fields scale node words =
     if has_points words then node_fields scale node (points_of words) else []
 
-abbrev pub total_fields : Scale → List Field
-total_fields scale = field.Word word.Wire ∷ field.Steps scale.grid (pos (10 ^ 36)) ∷ []
+abbrev pub total_fields : Scale → List field.Field
+total_fields scale = field.Word (codes "wire") ∷ field.Steps scale.grid (pos (10 ^ 36)) ∷ []
 
 -- the fields of a line of that form
-abbrev pub fields_of : Circuit → Scale → Form → List (List ℕ) → List Field
-fields_of circuit scale form.Version words = field.Word word.Cts ∷ field.Version ∷ []
-fields_of circuit scale form.Period words = field.Word word.Period ∷ field.Period ∷ []
+abbrev pub fields_of : Circuit → Scale → Form → List (List ℕ) → List field.Field
+fields_of circuit scale form.Version words = field.Word (codes "cts") ∷ field.Version ∷ []
+fields_of circuit scale form.Period words = field.Word (codes "period") ∷ field.Period ∷ []
 fields_of circuit scale form.Show words = show_fields words
 fields_of circuit scale form.Constraint words = constraint_fields
 fields_of circuit scale form.Path words = path_fields words
@@ -108,11 +109,11 @@ lead_forms version count = map (λ number. form.Lead) (range_with_len 0 (count_i
 
 -- the lines after what shows the period
 abbrev pub forms_after : Version → (registers : ℕ) → List Form
-forms_after version registers = form.Count word.Registers registers
+forms_after version registers = form.Count (codes "registers") registers
     ∷ map form.Register (range_with_len 0 registers) ++ lead_forms version registers
-    ++ form.Count word.Merges (registers - 1)
+    ++ form.Count (codes "merges") (registers - 1)
     ∷ map form.Merge (range_with_len registers (registers - 1))
-    ++ form.Source ∷ form.Count word.Nodes (2 * registers - 1)
+    ++ form.Source ∷ form.Count (codes "nodes") (2 * registers - 1)
     ∷ map form.Node (range_with_len 0 (2 * registers - 1)) ++ form.Total ∷ []
 
 -- all lines, with a cycle of so many constraints

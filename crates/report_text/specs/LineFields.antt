@@ -1,13 +1,11 @@
 -- What a word of a report's line may be asked to be.
-use Rattle.std.specs.Prelude.{ℕ, ℤ}
-use Rattle.report_text.specs.Common.{Keyword}
+use Rattle.std.specs.Prelude.{ℕ, ℤ, List}
 
--- that word; a version, a kind of constraint; that number, one of a range, or how many words stand
--- after it; a whole number of ticks, a period in ticks; so many steps of a unit below a bound in
--- size, or also `-` for none; the name of a register, of that one, of that or a later one, of a
--- signal
+-- that word; a version; a kind of constraint; that number; one of a range; how many words follow;
+-- whole ticks; a period; steps of a unit below a bound in size; the same, or `-` for none; the name
+-- of a register, of that one, of that or a later one, of a signal
 pub data Field : Type 0 where
-  Word : Keyword → Field
+  Word : (text : List ℕ) → Field
   Version : Field
   Kind : Field
   Exactly : (number : ℕ) → Field

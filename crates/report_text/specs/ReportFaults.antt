@@ -1,16 +1,11 @@
 -- What is wrong with a text that spells no report: its lines are judged in order, each by the form
 -- that is due. The order and the faults are this project's choice.
 use Rattle.std.specs.Prelude.{◌≡◌, ◌+◌, Bool, ◌==◌, ◌^◌, ℕ, ℤ, pos, ◌*ℤ◌, ◌∷◌, [], List, Option, Some, None, length, take, drop, get_or, if◌then◌else◌, codes, MatchBool, MatchOption, position}
-use Rattle.report_text.specs.Common.{after_first, slice_split, list_any, bytes_eq, digits_value, is_slash, Circuit, Version, Tech, ReportFault, BadLine, UnknownRegister, Missing, Extra, TooLarge, UnknownSignal, Flaw, Scale, First, Second}
-use Rattle.report_text.specs.declared.field.Keyword.TheVariants as word
-use Rattle.report_text.specs.declared.form.Form as forms
-use Rattle.report_text.specs.declared.form.Form.TheVariants as form
-use Rattle.report_text.specs.declared.field.Flaw.TheVariants.{Form, Unknown, Unfit, Large}
+use Rattle.report_text.specs.Common.{is_line_feed, after_first, slice_split, list_any, bytes_eq, digits_value, is_slash, Circuit, Version, Tech, ReportFault, BadLine, UnknownRegister, Missing, Extra, TooLarge, UnknownSignal, Flaw, Scale, First, Second}
+use Rattle.report_text.specs.LineForms as form
+use Rattle.report_text.specs.declared.field.Flaw.TheVariants.{Unknown, Large}
 use Rattle.report_text.specs.Fields.{LineHasFlaw}
 use Rattle.report_text.specs.Forms.{fields_of, forms_of, is_word}
-
-abbrev pub is_line_feed : ℕ → Bool
-is_line_feed byte = byte == 10
 
 abbrev pub is_space : ℕ → Bool
 is_space byte = byte == 32
@@ -20,19 +15,18 @@ abbrev pub words_of : List ℕ → List (List ℕ)
 words_of line = slice_split is_space line
 
 -- the fault that a line has with a flaw
-abbrev pub unknown_on : forms.Form → (line : ℕ) → ReportFault
+abbrev pub unknown_on : form.Form → (line : ℕ) → ReportFault
 unknown_on form.Path line = UnknownSignal line
 unknown_on form line = UnknownRegister line
 
-abbrev pub fault_of : forms.Form → (line : ℕ) → Flaw → ReportFault
-fault_of form line Form = BadLine line
+abbrev pub fault_of : form.Form → (line : ℕ) → Flaw → ReportFault
 fault_of form line Unknown = unknown_on form line
-fault_of form line Unfit = BadLine line
 fault_of form line Large = TooLarge line
+fault_of form line flaw = BadLine line
 
--- the first fault of a text whose lines from that number on are to have these forms, if there is
--- one: a line that is due is missing, has no line feed or has a flaw, or more lines stand there
-abbrev pub HasFirstFault : Circuit → Scale → List forms.Form → (line : ℕ) → (text : List ℕ)
+-- the first fault, or none, of a text whose lines from that number on are to have these forms: a
+-- line that is due is missing, has no line feed or has a flaw, or more lines stand there
+abbrev pub HasFirstFault : Circuit → Scale → List form.Form → (line : ℕ) → (text : List ℕ)
     → Option ReportFault → Type 0
 HasFirstFault circuit scale [] line text fault =
     fault ≡ (if length text == 0 then None else Some (Extra line))
@@ -51,8 +45,7 @@ abbrev pub word_at : List ℕ → (line place : ℕ) → List ℕ
 word_at text line place =
     get_or (words_of (get_or (slice_split is_line_feed text) line [])) place []
 
--- what the first three lines tell of the lines after them: the version, the steps, and how many
--- constraints the cycle has
+-- what the first three lines tell: the version, the steps, how many constraints the cycle has
 abbrev pub version_denoted : List ℕ → Version
 version_denoted text =
     if bytes_eq (word_at text 0 1) (codes "1") then First else Second
@@ -68,7 +61,7 @@ scale_denoted tech text = record {
 }
 
 abbrev pub cycle_denoted : List ℕ → ℕ
-cycle_denoted text = if is_word (word_at text 2 0 ∷ []) 0 word.Floor
+cycle_denoted text = if is_word (word_at text 2 0 ∷ []) 0 (codes "floor")
     then 0 else digits_value 10 (word_at text 2 1)
 
 -- the text has this fault first as a report of the circuit with these delays, or none

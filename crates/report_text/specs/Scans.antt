@@ -1,12 +1,22 @@
--- A line that is read word by word, each by the field that is due. What is wrong with a word is
--- kept, and the words after it are read all the same: one of them may have what is judged sooner.
-use Rattle.std.specs.Prelude.{◌≡◌, ◌<◌, ℕ, List, [], ◌∷◌, ◌++◌, Option, Some, None, Result, Ok, Err, IfOk, length, drop}
+-- A line that is read word by word: what is wrong with a word is kept, and the next is read.
+use Rattle.std.specs.Prelude.{Err, IfOk, List, None, Ok, Option, Result, Some, [], drop, if◌then◌else◌, length, nat_le, ℕ, ◌++◌, ◌<◌, ◌∷◌, ◌≡◌}
 use Rattle.report_text.specs.Common.{Circuit, Words, Flaw, Form, Scale}
 use Rattle.report_text.specs.declared.field.Flaw.TheVariants as flaws
 use Rattle.report_text.specs.LineFields.{Field}
 use Rattle.report_text.specs.Fields.{LineHasFlaw}
-use Rattle.report_text.specs.FlawOrder.{sooner_flaw}
 use Rattle.report_text.specs.Forms.{fields_of}
+
+-- how many kinds of flaws are judged before that one
+abbrev pub rank : Option Flaw → ℕ
+rank (Some flaws.Form) = 0
+rank (Some flaws.Unknown) = 1
+rank (Some flaws.Unfit) = 2
+rank (Some flaws.Large) = 3
+rank None = 4
+
+-- the flaw of two that is judged first
+abbrev pub sooner_flaw : (first second : Option Flaw) → Option Flaw
+sooner_flaw first second = if nat_le (rank first) (rank second) then first else second
 
 -- the words of a line that are left, and what is wrong with those before them first
 pub record LineLeft : Type 0 where
@@ -23,20 +33,14 @@ abbrev pub EndsIn : Circuit → List Field → LineLeft → Option Flaw → Type
 EndsIn circuit fields left flaw = (found : Option Flaw)
     × LineHasFlaw circuit fields left.words found × (flaw ≡ sooner_flaw left.flaw found)
 
--- nothing was wrong, these words are taken, and this holds
-pub record Taken (texts : Words) (Holds : Type 0) (old new : LineLeft) : Type 0 where
-  pub sound : old.flaw ≡ None
-  pub words : old.words ≡ texts ++ new.words
-  pub holds : Holds
-
--- words are taken by these fields; where nothing is wrong up to there, they are these, and this
--- holds
+-- words are taken by these fields; where nothing is wrong, they are these, and this holds
 pub record Takes (circuit : Circuit) (fields : List Field) (texts : Words) (Holds : Type 0)
     (old new : LineLeft) : Type 0 where
   pub rest : new.words ≡ drop (length fields) old.words
   pub judged : (more : List Field) (flaw : Option Flaw) → EndsIn circuit more new flaw
       → EndsIn circuit (fields ++ more) old flaw
-  pub taken : new.flaw ≡ None → Taken texts Holds old new
+  pub taken : new.flaw ≡ None
+      → (old.flaw ≡ None) × (old.words ≡ texts ++ new.words) × Holds
 
 -- the next word is taken; where there is none, the line hasn't its form
 pub record TakesNext (word : List ℕ) (old new : LineLeft) : Type 0 where

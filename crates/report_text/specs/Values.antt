@@ -1,6 +1,57 @@
--- What the words of a report's line say.
-use Rattle.std.specs.Prelude.{◌≡◌, ◌^◌, ℕ, ℤ, pos, ◌≤ℤ◌, [], ◌∷◌, ◌++◌, length, take, codes}
-use Rattle.report_text.specs.Common.{flat_map, signed_decimal, HasSizeBelow, quotient_text, Circuit, Point, IsBelow, IsPointBelow, Words, IsMergeShow, IsSmallMerge, IsSmallWire, IsSourceShow, ShowsAmong, show_words, Scale, MergeLine, NodeLine, SourceLine}
+-- What the lines of a report tell: their words, and values within their bounds.
+use Rattle.std.specs.Prelude.{All, List, None, Option, Some, [], codes, length, pos, take, ℕ, ℤ, ◌++◌, ◌<ℤ◌, ◌<◌, ◌^◌, ◌∷◌, ◌≡◌, ◌≤ℤ◌, ◌≤◌}
+use Rattle.report_text.specs.Common.{quotient_text, HasSizeBelow, Fraction, Circuit, Constraint, Point, Report, Lead, IsBelow, IsPointBelow, IsSmallWire, HasSmallWeight, IsBetweenRegisters, LeadsAmong, IsSmallLead, IsMergeShow, IsSmallMerge, IsSourceShow, ShowsAmong, lead_line, path_line, show_words, Words, count_line, period_line, register_line, floor_line, line_for, IsSmallPeriod, AreSmallSlacks, Scale, Timed, MergeLine, NodeLine, SourceLine, signed_decimal, flat_map}
+
+-- words that stand after others on a line: each after a space
+abbrev pub suffix : Words → List ℕ
+suffix words = flat_map (λ word. 32 ∷ word) words
+
+-- lengths, reaches and points are small enough to be brought to lowest terms
+pub record HasSmallLengths (report : Report) : Type 0 where
+  pub some_grid : pos 1 ≤ℤ report.grid
+  pub small_grid : report.grid <ℤ pos (10 ^ 37)
+  pub reaches : All (IsBelow (10 ^ 32)) report.tree.reach
+  pub places : All (IsPointBelow (10 ^ 32)) report.tree.place
+  pub lengths : All (IsBelow (10 ^ 32)) report.tree.length
+  pub wires : All IsSmallWire report.wires
+  pub total : IsBelow (10 ^ 36) report.total
+
+pub record DenotesPeriod (words : Words) (period : Fraction) : Type 0 where
+  pub line : words ≡ period_line period
+  pub small : IsSmallPeriod period
+
+-- the line for what shows the period: how many constraints the cycle has, or the floor
+abbrev pub shown_line : Option ℕ → Words
+shown_line None = floor_line
+shown_line (Some count) = count_line (codes "cycle") count
+
+abbrev pub IsSmallCount : Option ℕ → Type 0
+IsSmallCount None = Unit {0}
+IsSmallCount (Some count) = (1 ≤ count) × (count ≤ 9999)
+
+pub record DenotesConstraint (circuit : Circuit) (words : Words)
+    (constraint : Constraint) : Type 0 where
+  pub line : words ≡ line_for circuit constraint
+  pub registers : IsBetweenRegisters (length circuit.registers) constraint
+  pub weight : HasSmallWeight constraint
+
+-- the signals of a path, none where it isn't printed
+pub record DenotesPath (circuit : Circuit) (words : Words) (path : List ℕ) : Type 0 where
+  pub line : words ≡ path_line circuit path
+  pub signals : All (λ number. number < length circuit.signals) path
+  pub few : length path ≤ 65536
+
+-- the arrival of a register, in steps, and its slacks
+pub record DenotesTimed (circuit : Circuit) (scale : Scale) (register : ℕ) (words : Words)
+    (timed : Timed) : Type 0 where
+  pub line : words ≡ register_line circuit scale.den register timed.arrival timed.slack
+  pub small : IsBelow (10 ^ 19) timed.arrival
+  pub slacks : AreSmallSlacks scale.den timed.slack
+
+pub record DenotesLead (circuit : Circuit) (words : Words) (lead : Lead) : Type 0 where
+  pub line : words ≡ lead_line circuit lead
+  pub registers : LeadsAmong (length circuit.registers) lead
+  pub small : IsSmallLead lead
 
 -- there are steps, and few enough for their words
 pub record IsSmallScale (scale : Scale) : Type 0 where
@@ -53,8 +104,3 @@ pub record SaysNode (grid : ℤ) (node : ℕ) (words : Words) (line : NodeLine) 
   pub place : IsPointBelow (10 ^ 32) line.place
   pub edge : IsBelow (10 ^ 32) line.length
   pub wire : IsSmallWire line.wire
-
--- the words say this of the whole wire
-pub record SaysTotal (grid : ℤ) (words : Words) (total : ℤ) : Type 0 where
-  pub words_are : words ≡ codes "wire" ∷ quotient_text total grid ∷ []
-  pub small : IsBelow (10 ^ 36) total

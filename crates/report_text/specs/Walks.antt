@@ -1,10 +1,10 @@
--- Reading a text line by line, each by the form that is due.
-use Rattle.std.specs.Prelude.{◌≡◌, ◌≢◌, ◌<◌, ◌+◌, ◌==◌, false, ℕ, List, [], ◌∷◌, ◌++◌, Option, Some, None, length, map, take, drop, position, MatchBool, MatchOption}
-use Rattle.report_text.specs.Common.{slice_split, Circuit, Words, text_of, ReportFault, BadLine, Missing, NoMemory, Form, Scale, Flaw, Version, version_line}
+-- Reading a text line by line, each by the form that is due, and the rows that lines tell.
+use Rattle.std.specs.Prelude.{All, List, MatchBool, MatchOption, None, Option, Some, [], drop, false, length, map, position, take, ℕ, ◌++◌, ◌+◌, ◌<◌, ◌==◌, ◌∷◌, ◌≡◌, ◌≢◌, ◌≤◌}
+use Rattle.report_text.specs.Common.{is_line_feed, Circuit, Constraint, Second, HasSmallWeight, IsBetweenRegisters, pathed_lines, Words, count_line, text_of, BadLine, Missing, NoMemory, ReportFault, Flaw, Form, Scale, range_with_len, slice_split}
+use Rattle.report_text.specs.LineForms as form
 use Rattle.report_text.specs.Fields.{LineHasFlaw}
-use Rattle.report_text.specs.Forms.{fields_of}
-use Rattle.report_text.specs.ReportFaults.{HasFirstFault, fault_of, is_line_feed, words_of}
-use Rattle.report_text.specs.TimingValues.{IsFlawless}
+use Rattle.report_text.specs.Forms.{cycle_forms, fields_of}
+use Rattle.report_text.specs.ReportFaults.{HasFirstFault, fault_of, words_of}
 
 -- what is left of a text, and the number of its first line
 pub record Left : Type 0 where
@@ -19,13 +19,12 @@ pub record TakesLine (old : Left) (line : List ℕ) (new : Left) : Type 0 where
   pub text : new.text ≡ drop (length line + 1) old.text
   pub number : new.line ≡ old.line + 1
 
--- no line can be taken
-abbrev pub HasNoLine : Left → ReportFault → Type 0
-HasNoLine left fault = MatchBool (length left.text == 0) (fault ≡ Missing left.line)
-    ((position is_line_feed left.text ≡ None) × (fault ≡ BadLine left.line))
+-- the words are a line of that form without a flaw
+abbrev pub IsFlawless : Circuit → Scale → Form → Words → Type 0
+IsFlawless circuit scale form words =
+    LineHasFlaw circuit (fields_of circuit scale form words) words None
 
--- these lines, without a flaw by these forms, are taken from what was left; so what is wrong with
--- the rest is what is wrong with all
+-- these lines are taken without a flaw; so what is wrong with the rest is what is wrong with all
 pub record Reads (circuit : Circuit) (scale : Scale) (forms : List Form) (lines : List Words)
     (old new : Left) : Type 0 where
   pub text : old.text ≡ text_of lines ++ new.text
@@ -41,8 +40,7 @@ abbrev pub Stops : Circuit → Scale → List Form → Left → ReportFault → 
 Stops circuit scale forms left fault = fault ≢ NoMemory → (more : List Form)
     → HasFirstFault circuit scale (forms ++ more) left.line left.text (Some fault)
 
--- the next line has these words, without a flaw by the form; so it is read by each scale by which
--- it has none
+-- the next line has these words, and is read by each scale by which it has no flaw
 pub record ReadsLine (circuit : Circuit) (scale : Scale) (form : Form) (words : Words)
     (old new : Left) : Type 0 where
   pub some : 0 < length words
@@ -66,6 +64,40 @@ pub record DenotesLine {X : Type 0} (circuit : Circuit) (scale : Scale) (form : 
   pub line : ReadsLine circuit scale form words old new
   pub denoted : Denotes words value
 
--- what the first line tells
-abbrev pub DenotesVersion : Words → Version → Type 0
-DenotesVersion words version = words ≡ version_line version
+-- each line says its row; the first has this number
+abbrev pub SayEach : {X : Type 0} (Says : ℕ → Words → X → Type 0) (first : ℕ) → List Words
+    → List X → Type 0
+SayEach Says first [] [] = Unit {0}
+SayEach Says first (words ∷ lines) (row ∷ rows) =
+    Says first words row × SayEach Says (first + 1) lines rows
+SayEach Says first lines rows = ⊥
+
+-- so many lines are read, which say these rows
+pub record HasRows {X : Type 0} (circuit : Circuit) (scale : Scale) (due : ℕ → Form)
+    (Says : ℕ → Words → X → Type 0) (first count : ℕ) (old new : Left) (rows : List X)
+    : Type 0 where
+  pub lines : List Words
+  pub read : Reads circuit scale (map due (range_with_len first count)) lines old new
+  pub each : SayEach Says first lines rows
+  pub many : length rows ≡ count
+
+-- a line says how many they are, and they follow
+pub record Counted {X : Type 0} (circuit : Circuit) (scale : Scale) (keyword : List ℕ)
+    (due : ℕ → Form) (Says : ℕ → Words → X → Type 0) (first count : ℕ) (old new : Left)
+    (rows : List X) : Type 0 where
+  pub between : Left
+  pub counted : ReadsLine circuit scale (form.Count keyword count)
+      (count_line keyword count) old between
+  pub has : HasRows circuit scale due Says first count between new rows
+
+-- the lines of a cycle with paths
+pub record HasPathed (circuit : Circuit) (scale : Scale) (count : ℕ) (old new : Left)
+    (pathed : List Constraint × List (List ℕ)) : Type 0 where
+  pub lines : Reads circuit scale (cycle_forms Second count)
+      (pathed_lines circuit pathed.0 pathed.1) old new
+  pub as_many : length pathed.0 ≡ count
+  pub paths : length pathed.1 ≡ count
+  pub registers : All (IsBetweenRegisters (length circuit.registers)) pathed.0
+  pub weights : All HasSmallWeight pathed.0
+  pub signals : All (All (λ number. number < length circuit.signals)) pathed.1
+  pub few : All (λ path. length path ≤ 65536) pathed.1

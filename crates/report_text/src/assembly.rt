@@ -1,30 +1,17 @@
 //! Putting a report together from what its lines tell.
 
-ghost use Rattle.std.specs.Prelude.{◌≡◌, ◌^◌, ◌++◌, ◌∷◌, ℕ, List, [], All, IfOk, map};
-ghost use Rattle.report_text.specs.Vocabulary.{IsBelow, Spells, IsSmallPeriod, HasParts, arrivals_in, begin_of, lengths_in, merges_in, places_in, reaches_in, report_denoted, sink_reaches, slacks_in, wires_in, Circuit};
+ghost use Rattle.std.specs.Prelude.{◌≡◌, ◌^◌, ◌++◌, ◌∷◌, [], All, IfOk, map};
+ghost use Rattle.report_text.specs.Vocabulary.{IsBelow, IsSmallPeriod, begin_of, report_denoted, sink_reach};
 
 use crate::sections::Parts;
-use crate::timing_values::Timed;
-use crate::tree_values::{MergeLine, NodeLine};
 use cts_base::{Listed, NoMemory};
 use cts_model::{Grid, Merge, Point, Report, Schedule, Show, Slack, Tech, Topology, Tree, Wire};
 use std::alloc::Global;
 
 /// The report that the parts of a text make up.
 pub(crate) fn report_of(alloc: Global, tech: &Tech, parts: Parts) -> Result<Report, NoMemory>
-    requires { (circuit : Circuit) × (text : List ℕ)
-        × HasParts circuit tech.now text parts }
-    ensures { (circuit : Circuit) (text : List ℕ) → HasParts circuit tech.now text parts
-        → IfOk result (Spells circuit tech.now text) }
-{
-    let report = put_together(alloc, tech, parts)?;
-    Ok(report)
-}
-
-// The report, value by value.
-fn put_together(alloc: Global, tech: &Tech, parts: Parts) -> Result<Report, NoMemory>
     requires period { IsSmallPeriod parts.heading.period }
-    requires arrivals { All (IsBelow (10 ^ 19)) (arrivals_in parts) }
+    requires arrivals { All (IsBelow (10 ^ 19)) (map (λ row. row.arrival) parts.body.timings) }
     ensures { IfOk result (λ report. report ≡ report_denoted tech.now parts) }
 {
     let columns = columns_of(alloc, tech, &parts)?;
@@ -35,14 +22,13 @@ fn put_together(alloc: Global, tech: &Tech, parts: Parts) -> Result<Report, NoMe
     } = parts;
     let period = heading.period;
     let grid = Grid { period, tech };
-    let den = period.den();
     Ok(Report {
         version: heading.version,
         period,
         shown: shown.shown,
         paths: shown.paths,
         schedule: Schedule {
-            den,
+            den: period.den(),
             at: columns.at,
         },
         slacks: columns.slacks,
@@ -71,37 +57,32 @@ pub(crate) struct Columns {
 
 // The columns of these parts.
 fn columns_of(alloc: Global, tech: &Tech, parts: &Parts) -> Result<Columns, NoMemory>
-    requires { All (IsBelow (10 ^ 19)) (arrivals_in parts.now) }
-    ensures at { IfOk result (λ columns. columns.at ≡ arrivals_in parts.now) }
-    ensures slacks { IfOk result (λ columns. columns.slacks ≡ slacks_in parts.now) }
-    ensures merges { IfOk result (λ columns. columns.merges ≡ merges_in parts.now) }
-    ensures shows { IfOk result (λ columns.
-        columns.shows ≡ (report_denoted tech.now parts.now).shows) }
-    ensures tree { IfOk result (λ columns.
-        columns.tree ≡ (report_denoted tech.now parts.now).tree) }
-    ensures wires { IfOk result (λ columns. columns.wires ≡ wires_in parts.now) }
+    requires { All (IsBelow (10 ^ 19)) (map (λ row. row.arrival) parts.now.body.timings) }
+    ensures at { IfOk result (λ all. all.at ≡ (report_denoted tech.now parts.now).schedule.at) }
+    ensures slacks { IfOk result (λ all. all.slacks ≡ (report_denoted tech.now parts.now).slacks) }
+    ensures merges { IfOk result (λ all.
+        all.merges ≡ (report_denoted tech.now parts.now).topology.merges) }
+    ensures shows { IfOk result (λ all. all.shows ≡ (report_denoted tech.now parts.now).shows) }
+    ensures tree { IfOk result (λ all. all.tree ≡ (report_denoted tech.now parts.now).tree) }
+    ensures wires { IfOk result (λ all. all.wires ≡ (report_denoted tech.now parts.now).wires) }
 {
-    let body = &parts.body;
-    let at = Listed::from_vec(arrivals_of(alloc, body.timings.as_slice())?);
-    let slacks = Listed::from_vec(slacks_of(alloc, body.timings.as_slice())?);
-    let merges = Listed::from_vec(merges_of(alloc, body.merged.as_slice())?);
-    let shows = Listed::from_vec(shows_of(alloc, body.merged.as_slice())?);
-    let shows = with_last(shows, body.source.show)?;
-    let wires = Listed::from_vec(wires_of(alloc, body.placed.as_slice())?);
-    let tree = tree_of(
-        alloc,
-        tech,
-        at.as_slice(),
-        parts,
-        begin_of(wires.as_slice()),
-    )?;
+    let timings = parts.body.timings.as_slice();
+    let merged = parts.body.merged.as_slice();
+    let placed = parts.body.placed.as_slice();
+    let at: Vec<i128> = timings.iter().map(|row| row.arrival).collect(alloc)?;
+    let slacks: Vec<Slack> = timings.iter().map(|row| row.slack).collect(alloc)?;
+    let merges: Vec<Merge> = merged.iter().map(|row| row.merge).collect(alloc)?;
+    let mut shows: Vec<Show> = merged.iter().map(|row| row.show).collect(alloc)?;
+    shows.push(parts.body.source.show)?;
+    let wires: Vec<Wire> = placed.iter().map(|row| row.wire).collect(alloc)?;
+    let tree = tree_of(alloc, tech, &at, parts, begin_of(&wires))?;
     Ok(Columns {
-        at,
-        slacks,
-        merges,
-        shows,
+        at: Listed::from_vec(at),
+        slacks: Listed::from_vec(slacks),
+        merges: Listed::from_vec(merges),
+        shows: Listed::from_vec(shows),
         tree,
-        wires,
+        wires: Listed::from_vec(wires),
     })
 }
 
@@ -114,46 +95,33 @@ fn tree_of(
     source: Point,
 ) -> Result<Tree, NoMemory>
     requires { All (IsBelow (10 ^ 19)) arrivals.now }
-    ensures reach { IfOk result (λ tree. tree.reach ≡ sink_reaches tech.now arrivals.now
-        ++ reaches_in parts.now ++ parts.now.body.source.reach ∷ []) }
-    ensures place { IfOk result (λ tree. tree.place ≡ places_in parts.now ++ source ∷ []) }
-    ensures length { IfOk result (λ tree. tree.length ≡ lengths_in parts.now) }
+    ensures { IfOk result (λ tree. tree ≡ record {
+      reach = map (sink_reach tech.now) arrivals.now
+          ++ map (λ row. row.reach) parts.now.body.merged ++ parts.now.body.source.reach ∷ [];
+      place = map (λ row. row.place) parts.now.body.placed ++ source ∷ [];
+      length = map (λ row. row.length) parts.now.body.placed;
+    }) }
 {
-    let body = &parts.body;
-    let merged = merge_reaches_of(alloc, body.merged.as_slice())?;
-    let reach = reaches_of(alloc, tech, arrivals, merged.as_slice(), body.source.reach)?;
-    let places = Listed::from_vec(places_of(alloc, body.placed.as_slice())?);
-    let place = with_last(places, source)?;
-    let length = Listed::from_vec(lengths_of(alloc, body.placed.as_slice())?);
+    let merged = parts.body.merged.as_slice();
+    let placed = parts.body.placed.as_slice();
+    let merges: Vec<i128> = merged.iter().map(|row| row.reach).collect(alloc)?;
+    let mut reach = sink_reaches(alloc, tech, arrivals)?;
+    reach.extend_from_slice(&merges)?;
+    reach.push(parts.body.source.reach)?;
+    let mut place: Vec<Point> = placed.iter().map(|row| row.place).collect(alloc)?;
+    place.push(source)?;
+    let length: Vec<i128> = placed.iter().map(|row| row.length).collect(alloc)?;
     Ok(Tree {
-        reach,
-        place,
-        length,
+        reach: Listed::from_vec(reach),
+        place: Listed::from_vec(place),
+        length: Listed::from_vec(length),
     })
-}
-
-// The reaches of the sinks, of the merges and of the source.
-fn reaches_of(
-    alloc: Global,
-    tech: &Tech,
-    arrivals: &[i128],
-    merged: &[i128],
-    source: i128,
-) -> Result<Listed<i128>, NoMemory>
-    requires { All (IsBelow (10 ^ 19)) arrivals.now }
-    ensures { IfOk result (λ reaches. reaches ≡ sink_reaches tech.now arrivals.now
-        ++ merged.now ++ source ∷ []) }
-{
-    let mut reaches = sink_reaches(alloc, tech, arrivals)?;
-    reaches.extend_from_slice(merged)?;
-    reaches.push(source)?;
-    Ok(Listed::from_vec(reaches))
 }
 
 // The reaches of the sinks, which are their offsets.
 fn sink_reaches(alloc: Global, tech: &Tech, arrivals: &[i128]) -> Result<Vec<i128>, NoMemory>
     requires { All (IsBelow (10 ^ 19)) arrivals.now }
-    ensures { IfOk result (λ reaches. reaches.items ≡ sink_reaches tech.now arrivals.now) }
+    ensures { IfOk result (λ reaches. reaches.items ≡ map (sink_reach tech.now) arrivals.now) }
 {
     let mut reaches = Vec::new(alloc);
     for arrival in arrivals {
@@ -170,69 +138,4 @@ fn begin_of(wires: &[Wire]) -> Point
         Some(wire) => wire.corners[0],
         None => Point { x: 0, y: 0 },
     }
-}
-
-// A list with one more item.
-fn with_last<T: Drop>(items: Listed<T>, item: T) -> Result<Listed<T>, NoMemory>
-    ensures { IfOk result (λ list. list ≡ items ++ item ∷ []) }
-{
-    let mut list = items;
-    list.push(item)?;
-    Ok(list)
-}
-
-// When the clock reaches each register.
-fn arrivals_of(alloc: Global, rows: &[Timed]) -> Result<Vec<i128>, NoMemory>
-    ensures { IfOk result (λ list. list.items ≡ map (λ row. row.arrival) rows.now) }
-{
-    Ok(rows.iter().map(|row| row.arrival).collect(alloc)?)
-}
-
-// What each register has to spare.
-fn slacks_of(alloc: Global, rows: &[Timed]) -> Result<Vec<Slack>, NoMemory>
-    ensures { IfOk result (λ list. list.items ≡ map (λ row. row.slack) rows.now) }
-{
-    Ok(rows.iter().map(|row| row.slack).collect(alloc)?)
-}
-
-// What each merge joins.
-fn merges_of(alloc: Global, rows: &[MergeLine]) -> Result<Vec<Merge>, NoMemory>
-    ensures { IfOk result (λ list. list.items ≡ map (λ row. row.merge) rows.now) }
-{
-    Ok(rows.iter().map(|row| row.merge).collect(alloc)?)
-}
-
-// The reach of the node that each merge makes.
-fn merge_reaches_of(alloc: Global, rows: &[MergeLine]) -> Result<Vec<i128>, NoMemory>
-    ensures { IfOk result (λ list. list.items ≡ map (λ row. row.reach) rows.now) }
-{
-    Ok(rows.iter().map(|row| row.reach).collect(alloc)?)
-}
-
-// What shows the reach of each merge.
-fn shows_of(alloc: Global, rows: &[MergeLine]) -> Result<Vec<Show>, NoMemory>
-    ensures { IfOk result (λ list. list.items ≡ map (λ row. row.show) rows.now) }
-{
-    Ok(rows.iter().map(|row| row.show).collect(alloc)?)
-}
-
-// Where each node stands.
-fn places_of(alloc: Global, rows: &[NodeLine]) -> Result<Vec<Point>, NoMemory>
-    ensures { IfOk result (λ list. list.items ≡ map (λ row. row.place) rows.now) }
-{
-    Ok(rows.iter().map(|row| row.place).collect(alloc)?)
-}
-
-// How long each edge is.
-fn lengths_of(alloc: Global, rows: &[NodeLine]) -> Result<Vec<i128>, NoMemory>
-    ensures { IfOk result (λ list. list.items ≡ map (λ row. row.length) rows.now) }
-{
-    Ok(rows.iter().map(|row| row.length).collect(alloc)?)
-}
-
-// Each edge as it is drawn.
-fn wires_of(alloc: Global, rows: &[NodeLine]) -> Result<Vec<Wire>, NoMemory>
-    ensures { IfOk result (λ list. list.items ≡ map (λ row. row.wire) rows.now) }
-{
-    Ok(rows.iter().map(|row| row.wire).collect(alloc)?)
 }

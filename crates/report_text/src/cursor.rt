@@ -1,7 +1,7 @@
 //! What is left of a text that is read line by line.
 
-ghost use Rattle.std.specs.Prelude.{[], None, Some, if◌then◌else◌, ◌≡◌, ◌==◌, map, position, IfOk, ◌<◌, length, IfErr};
-ghost use Rattle.report_text.specs.Vocabulary.{Extra, is_line_feed, words_of, Left, TakesLine, HasNoLine};
+ghost use Rattle.std.specs.Prelude.{MatchBool, [], None, Some, if◌then◌else◌, ◌≡◌, ◌==◌, map, position, IfOk, ◌<◌, length, IfErr};
+ghost use Rattle.report_text.specs.Vocabulary.{Extra, is_line_feed, words_of, Left, TakesLine, BadLine, Missing};
 
 use crate::fault::ReportFault;
 use cts_base::NoMemory;
@@ -56,7 +56,9 @@ impl<'a> Cursor<'a> {
     pub(crate) fn next_line(&mut self) -> Result<&'a [u8], ReportFault>
         requires { self.old.line < 1000000 }
         ensures ok { IfOk result (λ line. TakesLine self.old line.now self.new) }
-        ensures fault { IfErr result (HasNoLine self.old) }
+        ensures fault { IfErr result (λ fault. MatchBool (length self.old.text == 0)
+            (fault ≡ Missing self.old.line)
+            ((position is_line_feed self.old.text ≡ None) × (fault ≡ BadLine self.old.line))) }
     {
         if self.rest.is_empty() {
             return Err(ReportFault::Missing(self.line));

@@ -1,26 +1,3 @@
-/// A word that stands in a report as it is.
-#[derive(Clone, Copy, Debug, PartialEq, Eq)]
-pub enum Keyword {
-    Cts,
-    Period,
-    Cycle,
-    Floor,
-    Path,
-    Lead,
-    Registers,
-    Merges,
-    Pair,
-    Source,
-    Sink,
-    Root,
-    Nodes,
-    Wire,
-    /// A path that isn't printed.
-    Dash,
-    /// A lead that takes no constraint.
-    Zero,
-}
-
 /// What is wrong with a line first.
 #[derive(Clone, Copy, Debug, PartialEq, Eq)]
 pub enum Flaw {
@@ -32,4 +9,14 @@ pub enum Flaw {
     Unfit,
     /// A number is past its bound.
     Large,
+}
+
+/// How fine a report's numbers are: arrivals and slacks have so many steps a tick, and lengths so
+/// many a length unit.
+#[derive(Clone, Copy, Debug, PartialEq, Eq)]
+pub struct Scale {
+    /// The period's denominator.
+    pub den: i128,
+    /// The grid steps of a length unit.
+    pub grid: i128,
 }

@@ -5,7 +5,6 @@ mod assembly;
 mod cursor;
 mod fault;
 mod field;
-mod form;
 mod judging;
 pub mod laws;
 mod line;
@@ -19,7 +18,6 @@ mod timing;
 mod timing_values;
 mod tree;
 mod tree_values;
-mod words;
 
 pub use fault::ReportFault;
 pub use line::{push_constraint, push_count, push_line, push_line_for, push_value};

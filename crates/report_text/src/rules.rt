@@ -1,9 +1,9 @@
 //! What the lines of a report are judged by.
 
-ghost use Rattle.std.specs.Prelude.{◌≡◌, IfOk};
-ghost use Rattle.report_text.specs.Vocabulary.{register_names, signal_names, DenotesRegister, DenotesSignal, IsSmallPeriod, IsSmallScale, scale_in};
+ghost use Rattle.std.specs.Prelude.{◌≡◌, IfOk, length};
+ghost use Rattle.report_text.specs.Vocabulary.{register_names, signal_names, register_name, signal_name, IsNumberOf, IsSmallPeriod, IsSmallScale, scale_in};
 
-use crate::form::Scale;
+use crate::field::Scale;
 use crate::timing::signal_name;
 use cts_base::{Fraction, NoMemory};
 use cts_model::{Circuit, Grid, Tech};
@@ -63,14 +63,16 @@ impl<'a> Rules<'a> {
 
     /// The number of the register of that name. `None` says that no register has it.
     pub(crate) fn register(&self, name: &[u8]) -> Option<u32>
-        ensures { DenotesRegister self.now.circuit.now name.now result }
+        ensures { IsNumberOf (register_name self.now.circuit.now)
+            (length self.now.circuit.now.registers) name.now result }
     {
         self.registers.number_of(name)
     }
 
     /// The number of the signal of that name. `None` says that no signal has it.
     pub(crate) fn signal(&self, name: &[u8]) -> Option<u32>
-        ensures { DenotesSignal self.now.circuit.now name.now result }
+        ensures { IsNumberOf (signal_name self.now.circuit.now)
+            (length self.now.circuit.now.signals) name.now result }
     {
         self.signals.number_of(name)
     }

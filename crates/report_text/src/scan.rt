@@ -1,26 +1,22 @@
 //! Reading a line word by word, each by the field that is due.
 
-ghost use Rattle.std.specs.Prelude.{◌≡◌, drop, map, ◌<◌, ◌≤◌, ◌^◌, [], ◌∷◌, IfErr, None, length, get_or, pos, codes, if◌then◌else◌};
-ghost use Rattle.report_text.specs.Vocabulary.{rank, sooner_flaw, LineLeft, signed_decimal, fraction_text, quotient_text, register_name, IsBelow, signal_name, slack_text, IsSmallPeriod, IsSmallSlack, is_word, length_field, register_named, slack_field, keyword_text, version_text, EndsIn, Keeps, Takes, TakesNext, Circuit};
+ghost use Rattle.std.specs.Prelude.{nat_abs, ◌≡◌, drop, map, ◌<◌, ◌≤◌, ◌^◌, [], ◌∷◌, IfErr, None, length, get_or, pos, codes, if◌then◌else◌};
+ghost use Rattle.report_text.specs.Vocabulary.{rank, sooner_flaw, LineLeft, signed_decimal, fraction_text, quotient_text, register_name, IsBelow, signal_name, slack_text, IsSmallPeriod, IsSmallSlack, is_word, register_named, slack_field, version_text, EndsIn, Keeps, Takes, TakesNext, Circuit};
 ghost use Rattle.report_text.specs.LineFields as field;
 
-use crate::field::{Flaw, Keyword};
+use crate::field::Flaw;
 use crate::judging::fraction::{read_period, read_slack, read_steps};
-use crate::judging::keyword::{read_keyword, read_kind, read_version};
-use crate::judging::name::{read_from, read_named, read_register, read_signal};
-use crate::judging::number::{read_counted, read_exactly, read_number, read_weight};
+use crate::judging::{
+    read_counted, read_exactly, read_from, read_keyword, read_kind, read_named, read_number,
+    read_register, read_signal, read_version, read_weight,
+};
 use crate::rules::Rules;
-use crate::words::{is_word, words_after};
 use cts_base::Fraction;
 use cts_model::Version;
 use std::marker::Model;
 
-// Arrivals are below so many steps in size, and so are lengths and the whole wire.
+// Arrivals are below so many steps in size.
 const MAX_ARRIVAL: i128 = 10_000_000_000_000_000_000;
-
-const MAX_LENGTH: i128 = 100_000_000_000_000_000_000_000_000_000_000;
-
-const MAX_TOTAL: i128 = 1_000_000_000_000_000_000_000_000_000_000_000_000;
 
 /// What is left of a line that is read word by word, and what is wrong with it first so far. Where
 /// a word has a flaw a step gives some value, and the line isn't taken.
@@ -67,11 +63,11 @@ impl<'a> Scan<'a> {
         self.left().len()
     }
 
-    /// Whether of the words that are left the one at a place is that fixed one.
-    pub(crate) fn has_word(&self, place: usize, keyword: Keyword) -> bool
-        ensures { result ≡ is_word self.now.words place keyword }
+    /// Whether of the words that are left the one at a place is that one.
+    pub(crate) fn has_word(&self, place: usize, word: &[u8]) -> bool
+        ensures { result ≡ is_word self.now.words place word.now }
     {
-        is_word(self.left(), place, keyword)
+        word_at(self.left(), place) == word
     }
 
     /// What is wrong with the line first. Nothing may be left.
@@ -118,9 +114,9 @@ impl<'a> Scan<'a> {
     }
 
     /// Takes a fixed word.
-    pub(crate) fn keyword(&mut self, keyword: Keyword)
-        ensures { (circuit : Circuit) → Takes circuit (field.Word keyword ∷ [])
-            (keyword_text keyword ∷ []) (Unit {0}) self.old self.new }
+    pub(crate) fn keyword(&mut self, keyword: &[u8])
+        ensures { (circuit : Circuit) → Takes circuit (field.Word keyword.now ∷ [])
+            (keyword.now ∷ []) (Unit {0}) self.old self.new }
     {
         let word = self.next();
         self.keep(read_keyword(keyword, word), ());
@@ -210,25 +206,15 @@ impl<'a> Scan<'a> {
         self.keep(read_steps(rules.scale.den, MAX_ARRIVAL, word), 0)
     }
 
-    /// Takes a length, in grid steps.
-    pub(crate) fn length(&mut self, rules: &Rules) -> i128
-        ensures { (circuit : Circuit) → Takes circuit (length_field rules.now.scale ∷ [])
-            (quotient_text result rules.now.scale.grid ∷ []) (IsBelow (10 ^ 32) result)
-            self.old self.new }
-    {
-        let word = self.next();
-        self.keep(read_steps(rules.scale.grid, MAX_LENGTH, word), 0)
-    }
-
-    /// Takes the length of the whole wire, in grid steps.
-    pub(crate) fn total(&mut self, rules: &Rules) -> i128
+    /// Takes a length, in grid steps, below a bound in size.
+    pub(crate) fn length(&mut self, rules: &Rules, bound: i128) -> i128
         ensures { (circuit : Circuit) → Takes circuit
-            (field.Steps rules.now.scale.grid (pos (10 ^ 36)) ∷ [])
-            (quotient_text result rules.now.scale.grid ∷ []) (IsBelow (10 ^ 36) result)
+            (field.Steps rules.now.scale.grid bound ∷ [])
+            (quotient_text result rules.now.scale.grid ∷ []) (IsBelow (nat_abs bound) result)
             self.old self.new }
     {
         let word = self.next();
-        self.keep(read_steps(rules.scale.grid, MAX_TOTAL, word), 0)
+        self.keep(read_steps(rules.scale.grid, bound, word), 0)
     }
 
     /// Takes the name of that register.
@@ -297,4 +283,24 @@ fn rank(flaw: Option<Flaw>) -> u8
         Some(Flaw::Large) => 3,
         None => 4,
     }
+}
+
+// The word at a place, and no bytes where there is none.
+fn word_at<'a>(words: &[&'a [u8]], place: usize) -> &'a [u8]
+    ensures { result.now ≡ get_or (map (λ word. word.now) words.now) place [] }
+{
+    match words.get(place) {
+        Some(word) => word,
+        None => &[],
+    }
+}
+
+// The words after so many, none where there are no more.
+fn words_after<'a>(words: &'a [&'a [u8]], count: usize) -> &'a [&'a [u8]]
+    ensures { map (λ word. word.now) result.now ≡ drop count (map (λ word. word.now) words.now) }
+{
+    if words.len() < count {
+        return &[];
+    }
+    words.split_at(count).1
 }

@@ -1,12 +1,10 @@
 //! What the lines of a report's timing say.
 
-ghost use Rattle.std.specs.Prelude.{◌≡◌, ◌<◌, IfOk, All, length, map, replicate};
-ghost use Rattle.report_text.specs.Vocabulary.{IsBetweenRegisters, HasSmallWeight, signal_name, line_for, constraint_fields, Takes, DenotesPeriod, DenotesShow, DenotesConstraint, DenotesPath, DenotesLead, DenotesTimed, DenotesVersion};
+ghost use Rattle.std.specs.Prelude.{◌≡◌, ◌<◌, IfOk, All, length, map, replicate, if◌then◌else◌};
+ghost use Rattle.report_text.specs.Vocabulary.{IsBetweenRegisters, HasSmallWeight, signal_name, line_for, constraint_fields, ReadsForm, Takes, DenotesPeriod, DenotesConstraint, DenotesPath, DenotesLead, DenotesTimed, version_line, shown_line, IsSmallCount};
 ghost use Rattle.report_text.specs.LineFields as field;
-ghost use Rattle.report_text.specs.declared.form.Form.TheVariants as form;
+ghost use Rattle.report_text.specs.LineForms as form;
 
-use crate::field::Keyword;
-use crate::form::Form;
 use crate::reader::line::Line;
 use crate::rules::Rules;
 use crate::scan::Scan;
@@ -16,14 +14,10 @@ use cts_model::{Constraint, Lead, Slack, Version};
 impl Line for Version {
     ghost due = { λ number. form.Version };
 
-    ghost says = { λ circuit scale number words version. DenotesVersion words version };
-
-    fn form(_number: u32) -> Form {
-        Form::Version
-    }
+    ghost says = { λ circuit scale number words version. words ≡ version_line version };
 
     fn read(_rules: &Rules, _number: u32, scan: &mut Scan) -> Result<Version, NoMemory> {
-        scan.keyword(Keyword::Cts);
+        scan.keyword(b"cts");
         Ok(scan.version())
     }
 }
@@ -34,12 +28,8 @@ impl Line for Fraction {
 
     ghost says = { λ circuit scale number words period. DenotesPeriod words period };
 
-    fn form(_number: u32) -> Form {
-        Form::Period
-    }
-
     fn read(_rules: &Rules, _number: u32, scan: &mut Scan) -> Result<Fraction, NoMemory> {
-        scan.keyword(Keyword::Period);
+        scan.keyword(b"period");
         Ok(scan.period())
     }
 }
@@ -48,18 +38,15 @@ impl Line for Fraction {
 impl Line for Option<u32> {
     ghost due = { λ number. form.Show };
 
-    ghost says = { λ circuit scale number words count. DenotesShow words count };
-
-    fn form(_number: u32) -> Form {
-        Form::Show
-    }
+    ghost says = { λ circuit scale number words count.
+        (words ≡ shown_line count) × IsSmallCount count };
 
     fn read(_rules: &Rules, _number: u32, scan: &mut Scan) -> Result<Option<u32>, NoMemory> {
-        if scan.has_word(0, Keyword::Floor) {
-            scan.keyword(Keyword::Floor);
+        if scan.has_word(0, b"floor") {
+            scan.keyword(b"floor");
             return Ok(None);
         }
-        scan.keyword(Keyword::Cycle);
+        scan.keyword(b"cycle");
         let count = scan.number(1, 9999);
         Ok(Some(count))
     }
@@ -70,10 +57,6 @@ impl Line for Constraint {
 
     ghost says = { λ circuit scale number words constraint.
         DenotesConstraint circuit words constraint };
-
-    fn form(_number: u32) -> Form {
-        Form::Constraint
-    }
 
     fn read(rules: &Rules, _number: u32, scan: &mut Scan) -> Result<Constraint, NoMemory> {
         Ok(read_constraint(rules, scan))
@@ -90,6 +73,18 @@ fn read_constraint(rules: &Rules, scan: &mut Scan) -> Constraint
     let launch = scan.register(rules);
     let capture = scan.register(rules);
     let weight = scan.weight();
+    between(setup, launch, capture, weight)
+}
+
+// The constraint of that kind between two registers.
+fn between(setup: bool, launch: u32, capture: u32, weight: i128) -> Constraint
+    ensures { result ≡ record {
+      setup = setup;
+      tail = if setup then launch else capture;
+      head = if setup then capture else launch;
+      weight = weight;
+    } }
+{
     let (tail, head) = if setup {
         (launch, capture)
     } else {
@@ -103,28 +98,21 @@ fn read_constraint(rules: &Rules, scan: &mut Scan) -> Constraint
     }
 }
 
-// The signals of a path, none where it isn't printed.
-impl Line for Listed<u32> {
-    ghost due = { λ number. form.Path };
-
-    ghost says = { λ circuit scale number words path. DenotesPath circuit words path };
-
-    fn form(_number: u32) -> Form {
-        Form::Path
+/// Reads the words of a path: its signals, none where it isn't printed.
+pub(crate) fn path_of(rules: &Rules, scan: &mut Scan) -> Result<Listed<u32>, NoMemory>
+    ensures { IfOk result (λ path. ReadsForm rules.now.circuit.now rules.now.scale form.Path
+        (λ words. DenotesPath rules.now.circuit.now words path) scan.old scan.new) }
+{
+    let is_printed = !scan.has_word(1, b"-");
+    let count = scan.len().saturating_sub(2);
+    scan.keyword(b"path");
+    if !is_printed {
+        scan.keyword(b"-");
+        return Ok(Listed::new(rules.alloc));
     }
-
-    fn read(rules: &Rules, _number: u32, scan: &mut Scan) -> Result<Listed<u32>, NoMemory> {
-        let is_printed = !scan.has_word(1, Keyword::Dash);
-        let count = scan.len().saturating_sub(2);
-        scan.keyword(Keyword::Path);
-        if !is_printed {
-            scan.keyword(Keyword::Dash);
-            return Ok(Listed::new(rules.alloc));
-        }
-        scan.counted(count, 65536);
-        let signals = read_signals(rules, count, scan)?;
-        Ok(signals)
-    }
+    scan.counted(count, 65536);
+    let signals = read_signals(rules, count, scan)?;
+    Ok(signals)
 }
 
 // Reads the names of so many signals.
@@ -156,10 +144,6 @@ impl Line for Timed {
 
     ghost says = { DenotesTimed };
 
-    fn form(number: u32) -> Form {
-        Form::Register(number)
-    }
-
     fn read(rules: &Rules, number: u32, scan: &mut Scan) -> Result<Timed, NoMemory> {
         scan.named(rules, number);
         let arrival = scan.arrival(rules);
@@ -177,15 +161,11 @@ impl Line for Lead {
 
     ghost says = { λ circuit scale number words lead. DenotesLead circuit words lead };
 
-    fn form(_number: u32) -> Form {
-        Form::Lead
-    }
-
     fn read(rules: &Rules, _number: u32, scan: &mut Scan) -> Result<Lead, NoMemory> {
-        let is_first = scan.has_word(1, Keyword::Zero);
-        scan.keyword(Keyword::Lead);
+        let is_first = scan.has_word(1, b"0");
+        scan.keyword(b"lead");
         if is_first {
-            scan.keyword(Keyword::Zero);
+            scan.keyword(b"0");
             return Ok(Lead::Zero);
         }
         let depth = scan.number(1, 9999);

@@ -1,16 +1,19 @@
 //! What the lines of a report's tree say.
 
 ghost use Rattle.std.specs.Prelude.{◌≡◌, ◌≤◌, ◌+◌, ◌*◌, ◌^◌, ℕ, [], ◌∷◌, All, IsNone, IfSome, replicate, take};
-ghost use Rattle.report_text.specs.Vocabulary.{flat_map, IsPointBelow, ArePadded, length_field, Takes, SaysMerge, SaysNode, SaysSource, SaysTotal, coordinates, Circuit};
-ghost use Rattle.report_text.specs.declared.form.Form.TheVariants as form;
+ghost use Rattle.report_text.specs.Vocabulary.{flat_map, IsPointBelow, ArePadded, length_field, Takes, SaysMerge, SaysNode, SaysSource, wire_line, IsBelow, coordinates, Circuit};
+ghost use Rattle.report_text.specs.LineForms as form;
 
-use crate::field::Keyword;
-use crate::form::Form;
 use crate::reader::line::Line;
 use crate::rules::Rules;
 use crate::scan::Scan;
 use cts_base::NoMemory;
 use cts_model::{Merge, Point, Show, Wire};
+
+// Lengths and coordinates are below so many grid steps in size, and so is the whole wire.
+const MAX_LENGTH: i128 = 100_000_000_000_000_000_000_000_000_000_000;
+
+const MAX_TOTAL: i128 = 1_000_000_000_000_000_000_000_000_000_000_000_000;
 
 const ORIGIN: Point = Point { x: 0, y: 0 };
 
@@ -31,16 +34,12 @@ impl Line for MergeLine {
     ghost says = { λ circuit scale node words line.
         SaysMerge circuit scale.grid node words line };
 
-    fn form(number: u32) -> Form {
-        Form::Merge(number)
-    }
-
     fn read(rules: &Rules, number: u32, scan: &mut Scan) -> Result<MergeLine, NoMemory> {
         scan.exactly(number);
         let first = scan.number(0, 9999);
         let second = scan.number(0, 9999);
-        let reach = scan.length(rules);
-        scan.keyword(Keyword::Pair);
+        let reach = scan.length(rules, MAX_LENGTH);
+        scan.keyword(b"pair");
         let left = scan.register(rules);
         let right = scan.from(rules, left);
         Ok(MergeLine {
@@ -65,22 +64,18 @@ impl Line for SourceLine {
 
     ghost says = { λ circuit scale number words line. SaysSource circuit scale.grid words line };
 
-    fn form(_number: u32) -> Form {
-        Form::Source
-    }
-
     fn read(rules: &Rules, _number: u32, scan: &mut Scan) -> Result<SourceLine, NoMemory> {
-        let is_root = scan.has_word(2, Keyword::Root);
-        scan.keyword(Keyword::Source);
-        let reach = scan.length(rules);
+        let is_root = scan.has_word(2, b"root");
+        scan.keyword(b"source");
+        let reach = scan.length(rules, MAX_LENGTH);
         if is_root {
-            scan.keyword(Keyword::Root);
+            scan.keyword(b"root");
             return Ok(SourceLine {
                 reach,
                 show: Show::Root,
             });
         }
-        scan.keyword(Keyword::Sink);
+        scan.keyword(b"sink");
         let register = scan.register(rules);
         Ok(SourceLine {
             reach,
@@ -105,10 +100,6 @@ impl Line for NodeLine {
 
     ghost says = { λ circuit scale node words line. SaysNode scale.grid node words line };
 
-    fn form(number: u32) -> Form {
-        Form::Node(number)
-    }
-
     // A line with so many words as no node has is left as it is.
     fn read(rules: &Rules, number: u32, scan: &mut Scan) -> Result<NodeLine, NoMemory> {
         let Some(points) = points_in(scan.len()) else {
@@ -123,7 +114,7 @@ impl Line for NodeLine {
         };
         scan.exactly(number);
         let place = read_point(rules, scan);
-        let length = scan.length(rules);
+        let length = scan.length(rules, MAX_LENGTH);
         scan.exactly(points as u32);
         let corners = read_corners(rules, points, scan);
         Ok(NodeLine {
@@ -161,8 +152,8 @@ fn read_point(rules: &Rules, scan: &mut Scan) -> Point
         (coordinates rules.now.scale.grid result) (IsPointBelow (10 ^ 32) result)
         scan.old scan.new }
 {
-    let x = scan.length(rules);
-    let y = scan.length(rules);
+    let x = scan.length(rules, MAX_LENGTH);
+    let y = scan.length(rules, MAX_LENGTH);
     Point { x, y }
 }
 
@@ -192,15 +183,12 @@ pub(crate) struct TotalLine {
 impl Line for TotalLine {
     ghost due = { λ number. form.Total };
 
-    ghost says = { λ circuit scale number words line. SaysTotal scale.grid words line.length };
-
-    fn form(_number: u32) -> Form {
-        Form::Total
-    }
+    ghost says = { λ circuit scale number words line.
+        (words ≡ wire_line scale.grid line.length) × IsBelow (10 ^ 36) line.length };
 
     fn read(rules: &Rules, _number: u32, scan: &mut Scan) -> Result<TotalLine, NoMemory> {
-        scan.keyword(Keyword::Wire);
-        let length = scan.total(rules);
+        scan.keyword(b"wire");
+        let length = scan.length(rules, MAX_TOTAL);
         Ok(TotalLine { length })
     }
 }

@@ -1,9 +1,8 @@
-ghost use Rattle.std.specs.Prelude.{◌≡◌, ◌↔◌, IfErr, IfOk, IsTrue, MatchOption, pos, ◌≤ℤ◌, ◌<ℤ◌, ◌*ℤ◌, ◌^◌, int_div, int_rem, nat_abs};
+ghost use Rattle.std.specs.Prelude.{◌≡◌, ◌↔◌, codes, IfErr, IfOk, IsTrue, MatchOption, pos, ◌≤ℤ◌, ◌<ℤ◌, ◌*ℤ◌, ◌^◌, int_div, int_rem, nat_abs};
 ghost use Rattle.report_text.specs.Vocabulary.{fraction_text, quotient_text, HaveSmallSizes, SpellsQuotient, Circuit, IsBelow, slack_text, IsSmallPeriod, IsSmallSlack, AreSteps, WordHasFlaw, HasStepsFlaw, IsBetween, IsNegativeQuotient, IsRefusedFor, flaw_in};
 ghost use Rattle.report_text.specs.LineFields.{Period, Slack, Steps};
 
-use crate::field::{Flaw, Keyword};
-use crate::judging::keyword::is_keyword;
+use crate::field::Flaw;
 use cts_base::{Fraction, NumberFault, Quotient, read_fraction, read_quotient};
 
 // Slacks are below so many steps in size.
@@ -70,12 +69,19 @@ pub(crate) fn read_slack(over: i128, word: &[u8]) -> Result<Option<Fraction>, Fl
     ensures value { IfOk result (λ slack. (word.now ≡ slack_text slack)
         × IsSmallSlack over slack) }
 {
-    if is_keyword(Keyword::Dash, word) {
+    if is_dash(word) {
         return Ok(None);
     }
     let fraction = fraction_of(word)?;
     steps_of(over, MAX_SLACK, fraction)?;
     Ok(Some(fraction))
+}
+
+// Whether a word stands for none.
+fn is_dash(word: &[u8]) -> bool
+    ensures { IsTrue result ↔ (word.now ≡ codes "-") }
+{
+    word == b"-".as_slice()
 }
 
 /// Reads a number of steps, of which so many make a unit, below a bound in size.

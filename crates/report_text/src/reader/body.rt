@@ -5,31 +5,14 @@ ghost use Rattle.report_text.specs.Vocabulary.{HasBody, forms_after, count_in, S
 
 use crate::cursor::Cursor;
 use crate::fault::ReportFault;
-use crate::field::Keyword;
 use crate::reader::line::read;
 use crate::reader::rows::{read_counted, read_rows};
 use crate::rules::Rules;
 use crate::sections::Body;
 use cts_model::{Circuit, Version};
 
-/// Reads all sections after what shows the period.
+/// Reads all sections after what shows the period, over so many registers.
 pub(crate) fn read_body(
-    rules: &Rules,
-    version: Version,
-    cursor: &mut Cursor,
-) -> Result<Body, ReportFault>
-    requires line { cursor.old.line < 30000 }
-    ensures ok { IfOk result (HasBody rules.now.circuit.now rules.now.scale version
-        (length rules.now.circuit.now.registers) cursor.old cursor.new) }
-    ensures fault { IfErr result (Stops rules.now.circuit.now rules.now.scale
-        (forms_after version (length rules.now.circuit.now.registers)) cursor.old) }
-{
-    let count = registers_of(rules.circuit);
-    read_sections(rules, version, count, cursor)
-}
-
-// Reads all sections over so many registers.
-fn read_sections(
     rules: &Rules,
     version: Version,
     count: u32,
@@ -43,11 +26,11 @@ fn read_sections(
     ensures fault { IfErr result (Stops rules.now.circuit.now rules.now.scale
         (forms_after version count) cursor.old) }
 {
-    let timings = read_counted(rules, Keyword::Registers, 0, count, cursor)?;
+    let timings = read_counted(rules, b"registers", 0, count, cursor)?;
     let leads = read_rows(rules, 0, leads_in(version, count), cursor)?;
-    let merged = read_counted(rules, Keyword::Merges, count, count - 1, cursor)?;
+    let merged = read_counted(rules, b"merges", count, count - 1, cursor)?;
     let source = read(rules, 0, cursor)?;
-    let placed = read_counted(rules, Keyword::Nodes, 0, 2 * count - 1, cursor)?;
+    let placed = read_counted(rules, b"nodes", 0, 2 * count - 1, cursor)?;
     let total = read(rules, 0, cursor)?;
     Ok(Body {
         timings,
@@ -70,8 +53,8 @@ fn leads_in(version: Version, count: u32) -> u32
     }
 }
 
-// How many registers a circuit has, the host among them.
-fn registers_of(circuit: &Circuit) -> u32
+/// How many registers a circuit has, the host among them.
+pub(crate) fn registers_of(circuit: &Circuit) -> u32
     ensures value { result ≡ length circuit.now.registers }
     ensures some { 1 ≤ result }
     ensures few { result ≤ 4097 }

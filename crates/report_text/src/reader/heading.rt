@@ -1,7 +1,8 @@
 //! The heading of a report, and what shows its period.
 
-ghost use Rattle.std.specs.Prelude.{◌<◌, Some, IfOk, IfErr};
-ghost use Rattle.report_text.specs.Vocabulary.{cycle_forms, HasHeading, HasShown, IsSmallCount, count_of, heading_forms, Stops, Scale};
+ghost use Rattle.std.specs.Prelude.{[], ◌∷◌, ◌<◌, Some, IfOk, IfErr, unwrap_or};
+ghost use Rattle.report_text.specs.Vocabulary.{cycle_forms, HasHeading, HasShown, IsSmallCount, Stops, Scale};
+ghost use Rattle.report_text.specs.LineForms as form;
 
 use crate::cursor::Cursor;
 use crate::fault::ReportFault;
@@ -18,7 +19,8 @@ pub(crate) fn read_heading(rules: &Rules, cursor: &mut Cursor) -> Result<Heading
     requires line { cursor.old.line < 100 }
     ensures ok { IfOk result (HasHeading rules.now.circuit.now cursor.old cursor.new) }
     ensures fault { IfErr result (λ fault. (scale : Scale)
-        → Stops rules.now.circuit.now scale heading_forms cursor.old fault) }
+        → Stops rules.now.circuit.now scale
+        (form.Version ∷ form.Period ∷ form.Show ∷ []) cursor.old fault) }
 {
     let version: Version = read(rules, 0, cursor)?;
     let period: Fraction = read(rules, 0, cursor)?;
@@ -43,7 +45,7 @@ pub(crate) fn read_shown(
     ensures ok { IfOk result (HasShown rules.now.circuit.now rules.now.scale version count
         cursor.old cursor.new) }
     ensures fault { IfErr result (Stops rules.now.circuit.now rules.now.scale
-        (cycle_forms version (count_of count)) cursor.old) }
+        (cycle_forms version (unwrap_or count 0)) cursor.old) }
 {
     let Some(count) = count else {
         return Ok(Shown {

@@ -5,7 +5,7 @@ ghost use Rattle.report_text.specs.Vocabulary.{Tech, HasHeading, IsSmallCount, H
 
 use crate::cursor::Cursor;
 use crate::fault::ReportFault;
-use crate::reader::body::read_body;
+use crate::reader::body::{read_body, registers_of};
 use crate::reader::heading::{read_heading, read_shown};
 use crate::rules::{Rules, scale_of, signal_names};
 use crate::sections::{Heading, Parts};
@@ -59,7 +59,8 @@ fn read_rest(rules: &Rules, heading: Heading, mut cursor: Cursor) -> Result<Part
         → HasFault rules.now.circuit.now tech text (Some found)) }
 {
     let shown = read_shown(rules, heading.version, heading.count, &mut cursor)?;
-    let body = read_body(rules, heading.version, &mut cursor)?;
+    let count = registers_of(rules.circuit);
+    let body = read_body(rules, heading.version, count, &mut cursor)?;
     cursor.end()?;
     Ok(Parts {
         heading,

@@ -2,12 +2,11 @@
 
 ghost use Rattle.std.specs.Prelude.{◌<◌, ◌≤◌, ◌∷◌, IfOk, IfErr, map};
 ghost use Rattle.report_text.specs.Vocabulary.{range_with_len, cycle_forms, Counted, HasPathed, HasRows, Stops, Second};
-ghost use Rattle.report_text.specs.declared.form.Form.TheVariants as form;
+ghost use Rattle.report_text.specs.LineForms as form;
 
 use crate::cursor::Cursor;
 use crate::fault::ReportFault;
-use crate::field::Keyword;
-use crate::reader::line::{Line, read, read_count};
+use crate::reader::line::{Line, read, read_count, read_path};
 use crate::rules::Rules;
 use cts_base::Listed;
 use cts_model::Constraint;
@@ -15,7 +14,7 @@ use cts_model::Constraint;
 /// Reads so many lines, after how many they are. The first has this number.
 pub(crate) fn read_counted<L: Line>(
     rules: &Rules,
-    word: Keyword,
+    word: &[u8],
     first: u32,
     count: u32,
     cursor: &mut Cursor,
@@ -23,10 +22,10 @@ pub(crate) fn read_counted<L: Line>(
     requires line { cursor.old.line < 90000 }
     requires first { first ≤ 10000 }
     requires count { count ≤ 10000 }
-    ensures ok { IfOk result (Counted rules.now.circuit.now rules.now.scale word L.due
+    ensures ok { IfOk result (Counted rules.now.circuit.now rules.now.scale word.now L.due
         (L.says rules.now.circuit.now rules.now.scale) first count cursor.old cursor.new) }
     ensures fault { IfErr result (Stops rules.now.circuit.now rules.now.scale
-        (form.Count word count ∷ map L.due (range_with_len first count)) cursor.old) }
+        (form.Count word.now count ∷ map L.due (range_with_len first count)) cursor.old) }
 {
     read_count(rules, word, count, cursor)?;
     let rows = read_rows(rules, first, count, cursor)?;
@@ -73,7 +72,7 @@ pub(crate) fn read_pathed(
     let mut paths = Listed::new(rules.alloc);
     for _place in 0..count {
         let constraint: Constraint = read(rules, 0, cursor)?;
-        let path: Listed<u32> = read(rules, 0, cursor)?;
+        let path = read_path(rules, cursor)?;
         cycle.push(constraint)?;
         paths.push(path)?;
     }

@@ -1,12 +1,10 @@
-use Rattle.report_text.proofs.Vocabulary.{arith}
-use Rattle.report_text.proofs.AssemblyLemmas.{arrivals_below, parts_spelled, parts_printable}
+use Rattle.report_text.proofs.Vocabulary.{◌≡◌, to_z, of_z, rules, w128, grid_of}
 use Rattle.report_text.proofs.assembly.report_of.Goals as goal
 
-pub put_together-requires-clause-period : goal.put_together-requires-clause-period
-put_together-requires-clause-period c = c.requires.2.heading.small
-
-pub put_together-requires-clause-arrivals : goal.put_together-requires-clause-arrivals
-put_together-requires-clause-arrivals c = arrivals_below (parts_printable c.requires.2)
-
 pub returns : goal.returns
-returns c circuit text has = search (arith, parts_spelled, c.in_ok-report.ensures)
+returns c =
+    let parts = c.args.parts in
+    let den : to_z w128 (of_z w128 c.den.result) ≡ parts.heading.period.den = search rules in
+    let grid : to_z w128 (of_z w128 c.steps_of_unit.result)
+    ≡ grid_of parts.heading.period c.args.tech.now = search rules in
+    search rules

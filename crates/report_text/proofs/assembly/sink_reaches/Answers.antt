@@ -1,4 +1,4 @@
-use Rattle.report_text.proofs.Vocabulary.{◌≡◌, ◌^◌, ◌∷◌, ◌++◌, ◌∙◌, [], pos, get_or, take, to_z, of_z, ap, subst, sym, arith, w128, ints, map_more, IsBelow, sink_reach, sink_reaches}
+use Rattle.report_text.proofs.Vocabulary.{◌≡◌, ◌^◌, ◌∷◌, ◌++◌, ◌∙◌, [], pos, get_or, take, to_z, of_z, ap, subst, sym, arith, w128, ints, map_more, IsBelow, sink_reach, map}
 use Rattle.report_text.proofs.AssemblyLemmas.{sink_below, small_read}
 use Rattle.report_text.proofs.assembly.sink_reaches.Goals as goal
 
@@ -13,6 +13,6 @@ loop-arrival-preserved c =
     let is = c.offset.ensures ∙ ap (sink_reach tech) plain in
     let below = subst (IsBelow (10 ^ 32)) (sym is) (sink_below tech _ small) in
     c.in_ok-push.ensures.items ∙ ap (λ l. l ++ to_z w128 (of_z w128 c.offset.result) ∷ [])
-    c.loop-arrival.invariant ∙ ap (λ reach. sink_reaches tech (take place arrivals) ++ reach ∷ [])
+    c.loop-arrival.invariant ∙ ap (λ reach. map (sink_reach tech) (take place arrivals) ++ reach ∷ [])
     (small_read _ below ∙ is) ∙ sym (map_more (sink_reach tech) arrivals place (pos 0)
     c.loop-arrival-test.true)

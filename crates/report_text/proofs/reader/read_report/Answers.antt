@@ -1,8 +1,20 @@
-use Rattle.report_text.proofs.Vocabulary.{rules, arith}
+use Rattle.report_text.proofs.Vocabulary.{rules, arith, subst, sym, Spells}
+use Rattle.report_text.proofs.AssemblyLemmas.{arrivals_below, parts_spelled, parts_printable}
 use Rattle.report_text.proofs.PassedTexts.{fault_or_report}
 use Rattle.report_text.proofs.WalkLemmas.{passed_on}
 use Rattle.report_text.proofs.WholeTexts.{fault_read, spelled_read}
 use Rattle.report_text.proofs.reader.read_report.Goals as goal
+
+pub report_of-requires-clause-period : goal.report_of-requires-clause-period
+report_of-requires-clause-period c = c.in_ok-parts.ensures.ok.heading.small
+
+pub report_of-requires-clause-arrivals : goal.report_of-requires-clause-arrivals
+report_of-requires-clause-arrivals c = arrivals_below (parts_printable c.in_ok-parts.ensures.ok)
+
+pub returns-clause-ok : goal.returns-clause-ok
+returns-clause-ok c =
+    subst (Spells c.args.circuit.now c.args.tech.now c.args.bytes.now) (sym c.in_ok-report.ensures)
+    (parts_spelled c.in_ok-parts.ensures.ok)
 
 pub returns-in_err-parts-clause-ok : goal.returns-in_err-parts-clause-ok
 returns-in_err-parts-clause-ok c = search rules
@@ -21,11 +33,11 @@ returns-in_err-parts-clause-faulty c =
 
 pub returns-clause-read : goal.returns-clause-read
 returns-clause-read c =
-    search (arith, spelled_read, c.in_ok-report.ensures, c.in_ok-parts.ensures.ok)
+    search (arith, spelled_read, returns-clause-ok)
 
 pub returns-clause-faulty : goal.returns-clause-faulty
 returns-clause-faulty c =
-    search (arith, fault_read, c.in_ok-report.ensures, c.in_ok-parts.ensures.ok)
+    search (arith, fault_read, returns-clause-ok)
 
 pub returns-clause-either : goal.returns-clause-either
 returns-clause-either c = search (arith, fault_or_report)

@@ -14,10 +14,9 @@ pub returns-clause-flaw : goal.returns-clause-flaw
 returns-clause-flaw c circuit =
     let fraction = c.in_ok-fraction.fraction in
     let (spells, small, same) = c.in_ok-fraction.ensures.spelled in
-    let has = rw (
-      to_z-of_z w128 c.args.over c.ranges.over,
-      to_z-of_z w128 c.args.bound c.ranges.bound,
-    ) at c.steps_of.ensures.flaw in
+    let over = to_z-of_z w128 c.args.over c.ranges.over in
+    let bound = to_z-of_z w128 c.args.bound c.ranges.bound in
+    let has = rw (over, bound) at c.steps_of.ensures.flaw in
     steps_denoted _ _ _ spells _ _ small fraction.lowest _ has circuit
 
 pub returns-clause-value : goal.returns-clause-value
@@ -26,10 +25,8 @@ returns-clause-value c some =
     let over = c.args.over in
     let fraction = c.in_ok-fraction.fraction in
     let (spells, small, same) = c.in_ok-fraction.ensures.spelled in
-    let value = rw (
-      to_z-of_z w128 over c.ranges.over,
-      to_z-of_z w128 c.args.bound c.ranges.bound,
-    ) at c.steps_of.ensures.value in
+    let bound = to_z-of_z w128 c.args.bound c.ranges.bound in
+    let value = rw (to_z-of_z w128 over c.ranges.over, bound) at c.steps_of.ensures.value in
     IfOk-weaker c.steps_of.result
     (λ steps. AreSteps over fraction.num fraction.den steps × IsBelow (nat_abs c.args.bound) steps)
     (λ steps. word ≡ quotient_text steps over × IsBelow (nat_abs c.args.bound) steps)

@@ -15,21 +15,16 @@ returns-in-Some-clause-flaw c = search (arith, to_z-of_z, steps_within)
 pub returns-in-Some-clause-value : goal.returns-in-Some-clause-value
 returns-in-Some-clause-value c =
     let fraction = c.args.fraction in
-    let divides = rw (to_z-of_z w128 c.args.over c.ranges.over) at c.divides.ensures in
-    let below = rw (
-      to_z-of_z w128 c.args.over c.ranges.over,
-      to_z-of_z w128 c.args.bound c.ranges.bound,
-    ) at c.in-Some.ensures in
+    let over = to_z-of_z w128 c.args.over c.ranges.over in
+    let divides = rw over at c.divides.ensures in
+    let below = rw (over, to_z-of_z w128 c.args.bound c.ranges.bound) at c.in-Some.ensures in
     let fits : FitsSigned w128 c.in-Some.steps = search rules in
     steps_taken c.args.over c.args.bound fraction.num fraction.den fraction.lowest
     (divides.0 c.if-not-divides.false) below.1 _ (to_z-of_z w128 c.in-Some.steps fits ∙ below.0)
 
 pub returns-in-None-clause-flaw : goal.returns-in-None-clause-flaw
 returns-in-None-clause-flaw c =
-    let fraction = c.args.fraction in
-    let divides = rw (to_z-of_z w128 c.args.over c.ranges.over) at c.divides.ensures in
-    let past = rw (
-      to_z-of_z w128 c.args.over c.ranges.over,
-      to_z-of_z w128 c.args.bound c.ranges.bound,
-    ) at c.in-None.ensures in
-    steps_past _ _ _ _ fraction.lowest (divides.0 c.if-not-divides.false) past
+    let over = to_z-of_z w128 c.args.over c.ranges.over in
+    let divides = rw over at c.divides.ensures in
+    let past = rw (over, to_z-of_z w128 c.args.bound c.ranges.bound) at c.in-None.ensures in
+    steps_past _ _ _ _ c.args.fraction.lowest (divides.0 c.if-not-divides.false) past

@@ -1,5 +1,5 @@
 use Rattle.report_text.proofs.Vocabulary.{subst, Stops}
-use Rattle.report_text.specs.declared.form.Form.TheVariants as form
+use Rattle.report_text.specs.LineForms as form
 use Rattle.report_text.proofs.BodyLemmas.{cycle_shown}
 use Rattle.report_text.proofs.RowLemmas.{one_form}
 use Rattle.report_text.proofs.WalkLemmas.{passed_on}

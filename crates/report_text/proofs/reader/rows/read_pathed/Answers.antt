@@ -1,6 +1,6 @@
 use Rattle.report_text.proofs.Vocabulary.{[], ◌∷◌, arith, cycle_forms}
 use Rattle.cts_model.specs.declared.report.Version.TheVariants as version
-use Rattle.report_text.specs.declared.form.Form.TheVariants as form
+use Rattle.report_text.specs.LineForms as form
 use Rattle.report_text.proofs.RowLemmas.{length_pathed, pathed_next, pathed_step}
 use Rattle.report_text.proofs.WalkLemmas.{next_stops, passed_on, stop_before, stop_after, stop_line}
 use Rattle.report_text.proofs.reader.rows.read_pathed.Goals as goal
@@ -8,8 +8,8 @@ use Rattle.report_text.proofs.reader.rows.read_pathed.Goals as goal
 pub read-requires : goal.read-requires
 read-requires c = record { line = omega (arith, length_pathed c.loop-place._place) }
 
-pub read-requires-in-loop-place : goal.read-requires-in-loop-place
-read-requires-in-loop-place c =
+pub read_path-requires : goal.read_path-requires
+read_path-requires c =
     let next = c.in_ok-constraint.ensures.ok in
     let read = next.line.read c.args.rules.now.scale next.line.flawless in
     record { line = omega (arith, length_pathed c.loop-place._place) }

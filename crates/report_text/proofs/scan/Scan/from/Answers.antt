@@ -1,9 +1,7 @@
-use Rattle.report_text.proofs.Vocabulary.{◌<◌, ◌≤◌, length, register_name}
 use Rattle.report_text.proofs.ScanLemmas.{takes_word}
 use Rattle.report_text.proofs.scan.Scan.from.Goals as goal
 
 pub returns : goal.returns
 returns c =
     takes_word _ _ c.next-word.ensures.taken c.read_from.ensures.flaw c.keep.ensures.kept
-    (register_name c.args.rules.now.circuit.now) (λ register. (c.args.first ≤ register)
-    × (register < length c.args.rules.now.circuit.now.registers)) c.read_from.ensures.value
+    _ _ c.read_from.ensures.value

@@ -1,8 +1,7 @@
-use Rattle.report_text.proofs.Vocabulary.{keyword_text}
 use Rattle.report_text.proofs.ScanLemmas.{takes_text}
 use Rattle.report_text.proofs.scan.Scan.keyword.Goals as goal
 
 pub returns : goal.returns
 returns c circuit =
-    takes_text _ _ c.next-word.ensures.taken (c.read_keyword.ensures.flaw circuit)
-    c.keep.ensures.kept (λ _. keyword_text c.args.keyword) c.read_keyword.ensures.value
+    takes_text _ _ c.next-word.ensures.taken (c.read_keyword.ensures.flaw circuit) c.keep.ensures.kept
+    _ c.read_keyword.ensures.value

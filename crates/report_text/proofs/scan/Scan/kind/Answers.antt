@@ -1,8 +1,7 @@
-use Rattle.report_text.proofs.Vocabulary.{codes, if◌then◌else◌}
 use Rattle.report_text.proofs.ScanLemmas.{takes_text}
 use Rattle.report_text.proofs.scan.Scan.kind.Goals as goal
 
 pub returns : goal.returns
 returns c circuit =
     takes_text _ _ c.next-word.ensures.taken (c.read_kind.ensures.flaw circuit) c.keep.ensures.kept
-    (λ setup. if setup then codes "setup" else codes "hold") c.read_kind.ensures.value
+    _ c.read_kind.ensures.value

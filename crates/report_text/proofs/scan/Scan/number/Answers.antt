@@ -1,9 +1,7 @@
-use Rattle.report_text.proofs.Vocabulary.{◌≤◌, pos, signed_decimal}
 use Rattle.report_text.proofs.ScanLemmas.{takes_word}
 use Rattle.report_text.proofs.scan.Scan.number.Goals as goal
 
 pub returns : goal.returns
 returns c circuit =
-    takes_word _ _ c.next-word.ensures.taken (c.read_number.ensures.flaw circuit)
-    c.keep.ensures.kept (λ n. signed_decimal (pos n)) (λ n. (c.args.least ≤ n) × (n ≤ c.args.most))
-    c.read_number.ensures.value
+    takes_word _ _ c.next-word.ensures.taken (c.read_number.ensures.flaw circuit) c.keep.ensures.kept
+    _ _ c.read_number.ensures.value

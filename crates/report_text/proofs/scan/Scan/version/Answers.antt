@@ -1,8 +1,7 @@
-use Rattle.report_text.proofs.Vocabulary.{version_text}
 use Rattle.report_text.proofs.ScanLemmas.{takes_text}
 use Rattle.report_text.proofs.scan.Scan.version.Goals as goal
 
 pub returns : goal.returns
 returns c circuit =
-    takes_text _ _ c.next-word.ensures.taken (c.read_version.ensures.flaw circuit)
-    c.keep.ensures.kept version_text c.read_version.ensures.value
+    takes_text _ _ c.next-word.ensures.taken (c.read_version.ensures.flaw circuit) c.keep.ensures.kept
+    _ c.read_version.ensures.value

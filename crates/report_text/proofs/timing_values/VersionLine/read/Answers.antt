@@ -2,8 +2,8 @@ use Rattle.report_text.proofs.Vocabulary.{refl}
 use Rattle.report_text.proofs.ScanLemmas.{form_read, takes_then, version_read}
 use Rattle.report_text.proofs.timing_values.VersionLine.read.Goals as goal
 
-pub returns : goal.returns
-returns c =
+pub returns-clause-read : goal.returns-clause-read
+returns-clause-read c =
     let circuit = c.args._rules.now.circuit.now in
     form_read refl (takes_then (c.keyword.ensures circuit) (c.version.ensures circuit))
     (λ are _. version_read c.version.result are)

@@ -2,8 +2,8 @@ use Rattle.report_text.proofs.Vocabulary.{◌≡◌, [], get_or, ap, refl, arith
 use Rattle.report_text.proofs.ScanLemmas.{form_read, takes_then}
 use Rattle.report_text.proofs.tree_values.MergeLineLine.read.Goals as goal
 
-pub returns : goal.returns
-returns c =
+pub returns-clause-read : goal.returns-clause-read
+returns-clause-read c =
     let circuit = c.args.rules.now.circuit.now in
     let words = c.args.scan.now.words in
     let five = takes_then (c.exactly.ensures circuit) (takes_then (c.number-first.ensures circuit)

@@ -3,15 +3,15 @@ use Rattle.report_text.proofs.ScanLemmas.{form_read, takes_none, takes_then}
 use Rattle.report_text.proofs.TreeLines.{no_points, points_are}
 use Rattle.report_text.proofs.tree_values.NodeLineLine.read.Goals as goal
 
-pub returns-in_default : goal.returns-in_default
-returns-in_default c =
+pub returns-in_default-clause-read : goal.returns-in_default-clause-read
+returns-in_default-clause-read c =
     form_read (no_points c.args.rules.now.scale c.args.number _
     (λ points some few all. c.in_default.ensures.none refl points some few (c.len.ensures ∙ all)))
     (takes_none c.args.rules.now.circuit.now c.args.scan.now)
     (λ are holds. absurd (omega (arith, c.requires.some, ap (λ (ws : Words). length ws) are)))
 
-pub returns : goal.returns
-returns c =
+pub returns-clause-read : goal.returns-clause-read
+returns-clause-read c =
     let circuit = c.args.rules.now.circuit.now in
     let (all, some, few) = c.in-Some.ensures.some in
     rw (to_z-of_z w128 c.length-length.result (record { sfits = c.length-length.type_inv }))

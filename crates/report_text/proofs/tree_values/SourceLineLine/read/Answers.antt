@@ -3,8 +3,8 @@ use Rattle.report_text.proofs.ScanLemmas.{form_read, takes_then}
 use Rattle.report_text.proofs.TreeLines.{shown_fields}
 use Rattle.report_text.proofs.tree_values.SourceLineLine.read.Goals as goal
 
-pub returns-then-is_root : goal.returns-then-is_root
-returns-then-is_root c =
+pub returns-then-is_root-clause-read : goal.returns-then-is_root-clause-read
+returns-then-is_root-clause-read c =
     let circuit = c.args.rules.now.circuit.now in
     rw (to_z-of_z w128 c.length-reach.result (record { sfits = c.length-reach.type_inv }))
     (form_read (ap (shown_fields c.args.rules.now.scale)
@@ -12,8 +12,8 @@ returns-then-is_root c =
     (takes_then (c.length-reach.ensures circuit) (c.keyword-then-is_root.ensures circuit)))
     (λ are holds. record { words_are = are; reach = holds.1.0; show = tt; among = tt }))
 
-pub returns : goal.returns
-returns c =
+pub returns-clause-read : goal.returns-clause-read
+returns-clause-read c =
     let circuit = c.args.rules.now.circuit.now in
     rw (to_z-of_z w128 c.length-reach.result (record { sfits = c.length-reach.type_inv }))
     (form_read (ap (shown_fields c.args.rules.now.scale)

@@ -1,7 +1,7 @@
 use Rattle.report_text.proofs.Vocabulary.{◌≡◌, ◌≤◌, pos, nat_abs, of_z, to_z, arith, w128, ints}
 use Rattle.report_text.proofs.NumberWords.{whole_read}
 use Rattle.report_text.proofs.SpelledFields.{small_number}
-use Rattle.report_text.proofs.judging.number.read_number.Goals as goal
+use Rattle.report_text.proofs.judging.read_number.Goals as goal
 
 pub returns-clause-value : goal.returns-clause-value
 returns-clause-value c =

@@ -1,7 +1,7 @@
 use Rattle.report_text.proofs.Vocabulary.{◌≡◌, pos, refl, arith, ints}
 use Rattle.report_text.proofs.NumberWords.{whole_read}
 use Rattle.report_text.proofs.SpelledFields.{small_number}
-use Rattle.report_text.proofs.judging.number.is_number.Goals as goal
+use Rattle.report_text.proofs.judging.is_number.Goals as goal
 
 pub returns-in-Some-clause-text : goal.returns-in-Some-clause-text
 returns-in-Some-clause-text c is =

@@ -1,7 +1,7 @@
 use Rattle.report_text.proofs.Vocabulary.{◌≡◌, ◌<◌, ◌-◌, false, length, sym, ap, ◌∙◌, subst, arith, All-nil, DenotesPath}
 use Rattle.report_text.proofs.ScanLemmas.{form_read, takes_then, path_read}
 use Rattle.report_text.proofs.TimingLines.{way_fields}
-use Rattle.report_text.proofs.timing_values.ListedU32Line.read.Goals as goal
+use Rattle.report_text.proofs.timing_values.path_of.Goals as goal
 
 pub returns-then-not-is_printed : goal.returns-then-not-is_printed
 returns-then-not-is_printed c =
