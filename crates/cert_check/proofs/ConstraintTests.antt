@@ -1,7 +1,7 @@
 -- Constraints by what joins their pairs.
 use Rattle.cert_check.proofs.Vocabulary.{◌≡◌, ◌<◌, ◌↔◌, ℕ, ℤ, Bool, false, true, List, length, map, get_or, Option, Some, None, ap, subst, ◌∙◌, arith, All, IfSome, IsSomeAnd, MatchBool, slice_get, length-map, All-map, slice_get-get_or, slice_get-map, Circuit, Constraint, Tech, PairDelay, IsPath, IsConstraintOf, IsHoldConstraint, IsSetupConstraint, IsOfCircuit, IsBetweenRegisters, AreDelaysBetween, IsJoinedBy, pair_of, weight_by}
 use Rattle.std.specs.Option.{option_map}
-use Rattle.cts_model.specs.timing.PairLists.{IsSmallPair}
+use Rattle.cts_model.specs.Vocabulary.{IsSmallPair}
 use Rattle.cert_check.proofs.GivenLemmas.{given_by}
 
 -- the registers of a pair are those of its constraint

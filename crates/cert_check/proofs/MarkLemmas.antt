@@ -1,6 +1,6 @@
 -- Marks of the nodes that merges join, one merge after the other.
 use Rattle.cert_check.proofs.Vocabulary.{◌≡◌, ◌<◌, ◌+◌, ◌*◌, ℕ, Bool, true, List, [], length, set, take, Option, None, Some, refl, sym, subst, arith, IfSome, length-set, length-take-le, take_more, Merge, AtEach, IsMerge, merge_at, merge_here, IsOfUnmarked, JoinsAt}
-use Rattle.cts_model.specs.tree.Marks.{AreMarked}
+use Rattle.cts_model.specs.Vocabulary.{AreMarked}
 use Rattle.cts_model.proofs.MarkLemmas as mark_lemmas
 use Rattle.cert_check.proofs.FirstPlaces.{each_more}
 

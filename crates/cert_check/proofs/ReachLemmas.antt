@@ -1,7 +1,7 @@
 -- What a report's tree gives to the judgement of its reaches, and what that comes to.
 use Rattle.cert_check.proofs.Vocabulary.{◌≡◌, ◌↔◌, ℕ, ◌<◌, ◌≤◌, ◌+◌, ◌*◌, ◌^◌, ℤ, pos, ◌-ℤ◌, List, length, get_or, FitsSigned, of_z, Bool, IsTrue, Option, Some, None, inl, inr, refl, sym, subst, ◌∙◌, arith, IfSome, IsSomeAnd, slice_get, w128, ints, to_z-of_z, get_or_from_slice_get, slice_get-get_or, slice_get_within, Circuit, Point, Sink, Uv, Problem, Report, Merge, AreWiresDown, Embedding, embedding_of, total_length, total_wire, IsReachShown, IsSkewed, IsBelow, IsPointBelow, IsUvBelow, rotated, IsOfSize, IsWithinBounds, number_at, arrival_of, sinks_in, source_in, ShowsMerge, ShowsSource, IsTopology, IsParent, Joins, numbers_below, root_of, source_of, made_parent, some_and, IsLevel, IsMergeShown, IsReachOver, IsSourceShown, IsSmallSink}
 use Rattle.std.specs.List.{All}
-use Rattle.cts_model.specs.tree.Problems.{on_grid, sink_of}
+use Rattle.cts_model.specs.Vocabulary.{on_grid, sink_of}
 use Rattle.cts_model.proofs.GridLemmas.{on_grid_below, scheduled_size}
 use Rattle.cts_model.proofs.SkewLemmas.{length-sinks_of, sink_at}
 use Rattle.cts_model.proofs.TotalLemmas.{total_within}

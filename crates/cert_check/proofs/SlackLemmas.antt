@@ -4,7 +4,7 @@ use Rattle.std.proofs.Math.Nat.{mul-div_cancel, mul_right_comm}
 use Rattle.cts_base.specs.declared.fraction.Fraction.{Fraction}
 use Rattle.cts_base.proofs.OneFraction.{one_fraction, other_sign}
 use Rattle.cts_model.specs.declared.schedule.Slack.{Slack}
-use Rattle.cts_model.specs.timing.Slacks.{IsSlack, IsSlackOf}
+use Rattle.cts_model.specs.Vocabulary.{IsSlack, IsSlackOf}
 use Rattle.cert_check.proofs.MarkLemmas.{some_if}
 
 -- ---- fractions that are numbers over a scale

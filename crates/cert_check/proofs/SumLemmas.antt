@@ -1,7 +1,7 @@
 -- Sums of weights and counts, one constraint after the other.
 use Rattle.cert_check.proofs.Vocabulary.{◌≡◌, ◌<◌, ◌+◌, ◌*◌, ◌^◌, ◌≤◌, ℕ, ℤ, pos, ◌+ℤ◌, ◌≤ℤ◌, neg_ℤ, Bool, true, false, if◌then◌else◌, List, length, get_or, drop, ap, ◌∙◌, arith, ints, drop_all, Constraint, count_of, IsBelow}
 use Rattle.std.proofs.lemmas.List.Sums.{sum_by-cons}
-use Rattle.cts_model.specs.timing.Cycles.{total_count, total_weight}
+use Rattle.cts_model.specs.Vocabulary.{total_count, total_weight}
 use Rattle.cert_check.proofs.FirstPlaces.{rest_is}
 
 -- with what is left these are the sums of the cycle, and no more than so many constraints have

@@ -15,7 +15,6 @@ pub use Rattle.cts_model.specs.declared.constraint.Constraint.{Constraint}
 pub use Rattle.cts_model.specs.declared.place.Point.{Point}
 pub use Rattle.cts_model.specs.declared.place.Sink.{Sink}
 pub use Rattle.cts_model.specs.declared.place.Uv.{Uv}
-pub use Rattle.cts_model.specs.declared.problem.Problem.{Problem}
 pub use Rattle.cts_model.specs.declared.report.Report.{Report}
 pub use Rattle.cts_model.specs.declared.report.Version.TheVariants.{First, Second}
 pub use Rattle.cts_model.specs.declared.schedule.Lead.TheVariants.{Zero, Tight}
@@ -23,19 +22,8 @@ pub use Rattle.cts_model.specs.declared.tech.Tech.{Tech}
 pub use Rattle.cts_model.specs.declared.timing.PairDelay.{PairDelay}
 pub use Rattle.cts_model.specs.declared.tree.Merge.{Merge}
 pub use Rattle.cts_model.specs.declared.tree.Wire.{Wire}
-pub use Rattle.cts_model.specs.netlist.Paths.{IsPath, Follows, IsGate, Reads}
-pub use Rattle.cts_model.specs.placement.Points.{IsBelow, distance, IsPointBelow, IsUvBelow, rotated, apart, rotated_distance}
-pub use Rattle.cts_model.specs.report.Judgements.{IsOfCircuit, IsDrawnEdge, IsLongEnough, IsReachShown, IsSkewed, HasShape, HasSlack, MeetsAt, HoldsTogether, GivesPeriod, IsFromFloor}
-pub use Rattle.cts_model.specs.report.ReportBounds.{IsBetweenRegisters, HasSmallWeight, HasSmallWeights, ShowsPeriodAmong, count_in, cycle_length, IsOfSize, IsWithinBounds, LeadsAmong}
-pub use Rattle.cts_model.specs.report.ReportLines.{number_at}
-pub use Rattle.cts_model.specs.report.Shown.{AtEach, cycle_of, IsShown, IsShownTiming, IsShownTree, sinks_in, source_in}
-pub use Rattle.cts_model.specs.timing.Constraints.{IsConstraintOf, IsHoldConstraint, IsSetupConstraint, count_of}
-pub use Rattle.cts_model.specs.timing.Schedules.{arrival_of}
-pub use Rattle.cts_model.specs.tree.DrawnWires.{IsBetween, AreApart, IsDrawn, Piece, pieces, total, IsStraight}
-pub use Rattle.cts_model.specs.tree.Embeddings.{AreWiresDown, Embedding, embedding_of, total_length, total_wire}
-pub use Rattle.cts_model.specs.tree.Regions.{span}
-pub use Rattle.cts_model.specs.tree.ShownReaches.{ShowsMerge, ShowsSource}
-pub use Rattle.cts_model.specs.tree.Topologies.{IsParent, IsTopology, Joins, numbers_below, source_of, IsMerge, root_of}
+pub use Rattle.cts_model.specs.Vocabulary.{IsPath, Follows, IsGate, Reads, IsBelow, distance, IsPointBelow, IsUvBelow, rotated, apart, rotated_distance, IsOfCircuit, IsDrawnEdge, IsLongEnough, IsReachShown, IsSkewed, HasShape, HasSlack, MeetsAt, HoldsTogether, GivesPeriod, IsFromFloor, IsBetweenRegisters, HasSmallWeight, HasSmallWeights, ShowsPeriodAmong, count_in, cycle_length, IsOfSize, IsWithinBounds, LeadsAmong, number_at, AtEach, cycle_of, IsShown, IsShownTiming, IsShownTree, sinks_in, source_in, IsConstraintOf, IsHoldConstraint, IsSetupConstraint, count_of, arrival_of, IsBetween, AreApart, IsDrawn, Piece, pieces, total, IsStraight, AreWiresDown, Embedding, embedding_of, total_length, total_wire, span, ShowsMerge, ShowsSource, IsParent, IsTopology, Joins, numbers_below, source_of, IsMerge, root_of}
+pub use Rattle.cts_model.specs.declared.problem.Problem.{Problem}
 pub use Rattle.path_delays.specs.JoinedPairs.{AreDelaysBetween, IsJoinedBy, IsDelayBetween}
 pub use Rattle.cert_check.specs.ComparedSlacks.{AreOneSlack, HasSlackRoom, IsFromZero}
 pub use Rattle.cert_check.specs.DrawnParts.{Share, greatest_common, least_common, piece, AreEnds, IsWay}

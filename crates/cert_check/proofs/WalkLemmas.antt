@@ -1,8 +1,8 @@
 -- Paths and their delays, one gate after the other.
 use Rattle.cert_check.proofs.Vocabulary.{◌≡◌, ◌<◌, ◌+◌, ◌*◌, ◌^◌, ℕ, ℤ, pos, ◌+ℤ◌, ◌≤ℤ◌, neg_ℤ, Bool, true, false, IsTrue, Option, None, Some, All, List, [], ◌∷◌, length, get_or, drop, refl, ap, ◌∙◌, arith, IsSomeAnd, slice_get, All-nil, All-cons, ints, Circuit, Tech, Follows, IsGate, IsPath, Reads, IsBelow}
 use Rattle.std.proofs.Common.{Contains}
-use Rattle.cts_model.specs.netlist.Kinds.{is_gate}
 use Rattle.cts_model.specs.declared.signal.Signal.{Signal}
+use Rattle.cts_model.specs.Vocabulary.{is_gate}
 use Rattle.cert_check.proofs.FirstPlaces.{rest_is}
 use Rattle.cert_check.specs.WalkedPaths.{LeadsTo, gate_delay_by, through_by}
 

@@ -2,7 +2,7 @@
 use Rattle.std.specs.Prelude.{◌≡◌, ◌⊎◌, ◌-◌, ◌<ℤ◌, ℤ, pos, List, All, AllPairs, Some, length, slice_get}
 use Rattle.std.specs.Int.{int_max, int_min}
 use Rattle.cts_model.specs.declared.place.Point.{Point}
-use Rattle.cts_model.specs.tree.DrawnWires.{AreApart, IsStraight, Piece, pieces, total}
+use Rattle.cts_model.specs.Vocabulary.{AreApart, IsStraight, Piece, pieces, total}
 
 -- the piece between two points
 abbrev pub piece : (from to : Point) → Piece

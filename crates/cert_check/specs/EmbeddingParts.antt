@@ -2,9 +2,7 @@
 use Rattle.std.specs.Prelude.{◌≡◌, ◌<◌, ℕ, Bool, false, List, IfSome, slice_get, slice_index_or, take}
 use Rattle.cts_model.specs.declared.place.Sink.{Sink}
 use Rattle.cts_model.specs.declared.tree.Merge.{Merge}
-use Rattle.cts_model.specs.tree.Embeddings.{Embedding}
-use Rattle.cts_model.specs.placement.Points.{rotated}
-use Rattle.cts_model.specs.tree.Topologies.{IsMerge}
+use Rattle.cts_model.specs.Vocabulary.{Embedding, rotated, IsMerge}
 
 -- the sink of that number stands at its given place
 abbrev pub StandsAt : List Sink → Embedding → (node : ℕ) → Type 0

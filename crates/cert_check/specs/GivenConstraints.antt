@@ -4,7 +4,7 @@ use Rattle.cts_model.specs.declared.circuit.Circuit.{Circuit}
 use Rattle.cts_model.specs.declared.constraint.Constraint.{Constraint}
 use Rattle.cts_model.specs.declared.tech.Tech.{Tech}
 use Rattle.cts_model.specs.declared.timing.PairDelay.{PairDelay}
-use Rattle.cts_model.specs.timing.Delays.{greatest_delay, least_delay}
+use Rattle.cts_model.specs.Vocabulary.{greatest_delay, least_delay}
 
 -- the register that launches along a constraint's paths, and the one that captures
 abbrev pub pair_of : Constraint → ℕ × ℕ

@@ -1,6 +1,6 @@
 -- The first judgement of several that doesn't hold, and its first place.
 use Rattle.std.specs.Prelude.{◌≡◌, ◌⊎◌, ◌<◌, ℕ, Result, Ok, Err}
-use Rattle.cts_model.specs.report.Shown.{AtEach}
+use Rattle.cts_model.specs.Vocabulary.{AtEach}
 use Rattle.cert_check.specs.declared.verdict.Reason.{Reason}
 use Rattle.cert_check.specs.declared.verdict.Stop.{Stop}
 use Rattle.cert_check.specs.declared.verdict.Stop.TheVariants.{At, NoMemory}

@@ -1,10 +1,7 @@
 -- What is judged of a report at each place, as its judge has it.
 use Rattle.std.specs.Prelude.{◌≡◌, ℕ, List, length}
 use Rattle.cts_model.specs.declared.schedule.Slack.{Slack}
-use Rattle.cts_model.specs.report.Judgements.{HasShape, HasSlack, HoldsTogether, IsDrawnEdge, IsEarliest, IsGivenPath, IsLongEnough, IsOfCircuit, IsReachShown, IsSkewed, MeetsAt}
-use Rattle.cts_model.specs.report.ReportLines.{number_at}
-use Rattle.cts_model.specs.timing.Slacks.{AreSlacks}
-use Rattle.cts_model.specs.tree.Embeddings.{Embedding, embedding_of}
+use Rattle.cts_model.specs.Vocabulary.{HasShape, HasSlack, HoldsTogether, IsDrawnEdge, IsEarliest, IsGivenPath, IsLongEnough, IsOfCircuit, IsReachShown, IsSkewed, MeetsAt, number_at, AreSlacks, Embedding, embedding_of}
 use Rattle.path_delays.specs.TimedCircuits.{TimedCircuit}
 use Rattle.cert_check.specs.declared.judge.Judge.{Judge}
 use Rattle.cert_check.specs.declared.verdict.Reason.TheVariants.{TooShort, WireSum}

@@ -1,7 +1,7 @@
 -- The parents of the nodes of a topology, as a list: Boese and Kahng 1992; Chao and others 1992.
 use Rattle.std.specs.Prelude.{◌≡◌, ◌<◌, ◌*◌, ℕ, List, All, length, slice_index_or}
 use Rattle.cts_model.specs.declared.tree.Merge.{Merge}
-use Rattle.cts_model.specs.tree.Topologies.{IsParent, IsTopology, source_of}
+use Rattle.cts_model.specs.Vocabulary.{IsParent, IsTopology, source_of}
 
 -- what the list has at a node's number
 abbrev pub parent_at : List ℕ → ℕ → ℕ

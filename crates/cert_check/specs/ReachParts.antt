@@ -5,9 +5,7 @@ use Rattle.cts_model.specs.declared.place.Sink.{Sink}
 use Rattle.cts_model.specs.declared.place.Uv.{Uv}
 use Rattle.cts_model.specs.declared.report.Report.{Report}
 use Rattle.cts_model.specs.declared.tree.Tree.{Tree}
-use Rattle.cts_model.specs.report.ReportLines.{number_at}
-use Rattle.cts_model.specs.tree.ShownReaches.{ShowsMerge, ShowsSource}
-use Rattle.cts_model.specs.tree.Topologies.{numbers_below, root_of, source_of}
+use Rattle.cts_model.specs.Vocabulary.{number_at, ShowsMerge, ShowsSource, numbers_below, root_of, source_of}
 
 -- with this wire down to each node, those to a register and to the first one differ as their
 -- offsets do

@@ -1,7 +1,7 @@
 -- Sinks of a problem.
 use Rattle.std.specs.Prelude.{◌^◌}
 use Rattle.cts_model.specs.declared.place.Sink.{Sink}
-use Rattle.cts_model.specs.placement.Points.{IsBelow, IsUvBelow}
+use Rattle.cts_model.specs.Vocabulary.{IsBelow, IsUvBelow}
 
 -- in grid steps a sink has small coordinates and a small offset
 pub record IsSmallSink (sink : Sink) : Type 0 where

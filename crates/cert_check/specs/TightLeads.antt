@@ -5,8 +5,7 @@ use Rattle.cts_model.specs.declared.constraint.Constraint.{Constraint}
 use Rattle.cts_model.specs.declared.schedule.Lead.{Lead}
 use Rattle.cts_model.specs.declared.schedule.Lead.TheVariants.{Zero, Tight}
 use Rattle.cts_model.specs.declared.tech.Tech.{Tech}
-use Rattle.cts_model.specs.report.ReportBounds.{HasSmallWeight, IsBetweenRegisters}
-use Rattle.cts_model.specs.timing.Constraints.{IsConstraintOf}
+use Rattle.cts_model.specs.Vocabulary.{HasSmallWeight, IsBetweenRegisters, IsConstraintOf}
 
 -- the constraint of a lead, if it has one
 abbrev pub constraint_of : Lead → Option Constraint

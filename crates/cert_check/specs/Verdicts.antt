@@ -5,13 +5,10 @@ use Rattle.std.specs.Prelude.{◌≡◌, ◌*◌, List, length}
 use Rattle.cts_model.specs.declared.constraint.Constraint.{Constraint}
 use Rattle.cts_model.specs.declared.place.Sink.{Sink}
 use Rattle.cts_model.specs.declared.place.Uv.{Uv}
-use Rattle.cts_model.specs.declared.problem.Problem.{Problem}
 use Rattle.cts_model.specs.declared.report.Report.{Report}
 use Rattle.cts_model.specs.declared.report.Version.TheVariants.{Second}
-use Rattle.cts_model.specs.tree.Embeddings.{embedding_of, total_wire}
-use Rattle.cts_model.specs.report.Judgements.{IsFromFloor, HoldsTogether, IsOfCircuit, GivesPeriod, MeetsAt, HasShape, IsLongEnough, IsDrawnEdge, IsSkewed, IsReachShown, HasSlack, IsGivenPath, IsEarliest}
-use Rattle.cts_model.specs.report.ReportLines.{number_at}
-use Rattle.cts_model.specs.report.Shown.{cycle_of, sinks_in, source_in}
+use Rattle.cts_model.specs.Vocabulary.{embedding_of, total_wire, IsFromFloor, HoldsTogether, IsOfCircuit, GivesPeriod, MeetsAt, HasShape, IsLongEnough, IsDrawnEdge, IsSkewed, IsReachShown, HasSlack, IsGivenPath, IsEarliest, number_at, cycle_of, sinks_in, source_in}
+use Rattle.cts_model.specs.declared.problem.Problem.{Problem}
 use Rattle.cert_check.specs.declared.verdict.Reason.TheVariants.{BelowFloor, CycleBroken, NotOfCircuit, CycleValue, ScheduleMisses, TreeShape, TooShort, WireSum, SkewDiffers, Unshown, Total, SlackDiffers, PathBroken, NotLeast}
 use Rattle.cert_check.specs.declared.verdict.Verdict.{Verdict}
 use Rattle.cert_check.specs.declared.verdict.Verdict.TheVariants.{Shown}

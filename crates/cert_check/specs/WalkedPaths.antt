@@ -3,8 +3,7 @@ use Rattle.std.specs.Prelude.{ℕ, ℤ, Bool, true, false, List, Option}
 use Rattle.cts_model.specs.declared.circuit.Circuit.{Circuit}
 use Rattle.cts_model.specs.declared.signal.Signal.{Signal}
 use Rattle.cts_model.specs.declared.tech.Tech.{Tech}
-use Rattle.cts_model.specs.timing.Delays.{greatest_delay, greatest_gate_delay, greatest_through, least_delay, least_gate_delay, least_through}
-use Rattle.cts_model.specs.netlist.Paths.{Captures, Follows}
+use Rattle.cts_model.specs.Vocabulary.{greatest_delay, greatest_gate_delay, greatest_through, least_delay, least_gate_delay, least_through, Captures, Follows}
 
 -- the gates lead from the signal to one that the register captures
 abbrev pub LeadsTo : Circuit → (first : ℕ) → (gates : List ℕ) → (to : ℕ) → Type 0

@@ -1,7 +1,5 @@
 ghost use Rattle.std.specs.Prelude.{◌≡◌, ◌↔◌, IfOk};
-ghost use Rattle.cts_model.specs.report.ReportBounds.{IsOfSize, IsWithinBounds};
-ghost use Rattle.cts_model.specs.report.SaidReports.{ShowsWhatItSays};
-ghost use Rattle.cts_model.specs.report.Shown.{IsShown, ShowsLeast, cycle_of};
+ghost use Rattle.cts_model.specs.Vocabulary.{IsOfSize, IsWithinBounds, ShowsWhatItSays, IsShown, ShowsLeast, cycle_of};
 ghost use Rattle.cert_check.specs.Vocabulary.{IsLevelsOf, Verdict, Decides, HasPaths, HasSlacks, JudgedTree, IsVerdict, IsVerdictBy};
 
 use crate::Verdict;

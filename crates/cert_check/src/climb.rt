@@ -1,7 +1,7 @@
 //! Which sinks are below a node of a tree, by a climb from each.
 
 ghost use Rattle.std.specs.Prelude.{◌<◌, ◌+◌, ◌*◌, ◌↔◌, IsTrue, Contains, length};
-ghost use Rattle.cts_model.specs.tree.Topologies.{IsParent, numbers_below};
+ghost use Rattle.cts_model.specs.Vocabulary.{IsParent, numbers_below};
 
 use crate::shaped::ShapedTree;
 

@@ -1,5 +1,5 @@
 ghost use Rattle.std.specs.Prelude.{◌≡◌, ◌<◌, ◌↔◌, All, IsTrue, length};
-ghost use Rattle.cts_model.specs.report.Judgements.{HoldsTogether, next_place};
+ghost use Rattle.cts_model.specs.Vocabulary.{HoldsTogether, next_place};
 ghost use Rattle.cert_check.specs.Vocabulary.{AreTailsBefore, CycleBroken, Judges, Together};
 
 use crate::item::item_at;

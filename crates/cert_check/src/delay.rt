@@ -1,7 +1,5 @@
 ghost use Rattle.std.specs.Prelude.{◌≡◌, ◌≤◌, ◌^◌, All, IsTrue, Some, drop, length, slice_get, if◌then◌else◌, ◌+ℤ◌};
-ghost use Rattle.cts_model.specs.netlist.Kinds.{is_gate, is_valid};
-ghost use Rattle.cts_model.specs.netlist.Paths.{IsGate};
-ghost use Rattle.cts_model.specs.placement.Points.{IsBelow};
+ghost use Rattle.cts_model.specs.Vocabulary.{is_gate, is_valid, IsGate, IsBelow};
 ghost use Rattle.cts_model.specs.table.Tables.{IsWithin};
 ghost use Rattle.cert_check.specs.Vocabulary.{delay_by, gate_delay_by, through_by};
 

@@ -1,7 +1,5 @@
 ghost use Rattle.std.specs.Prelude.{◌≡◌, ◌*◌, ◌^◌, ◌+ℤ◌, ◌-ℤ◌, ◌↔◌, All, IfOk, IsTrue, length};
-ghost use Rattle.cts_model.specs.tree.Embeddings.{AreWiresDown};
-ghost use Rattle.cts_model.specs.placement.Points.{IsBelow};
-ghost use Rattle.cts_model.specs.report.ReportLines.{number_at};
+ghost use Rattle.cts_model.specs.Vocabulary.{AreWiresDown, IsBelow, number_at};
 
 use crate::shaped::ShapedTree;
 use cts_base::NoMemory;

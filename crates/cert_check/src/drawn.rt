@@ -1,7 +1,5 @@
 ghost use Rattle.std.specs.Prelude.{◌≡◌, ◌↔◌, ◌≤◌, ◌*◌, ◌+◌, ◌^◌, ◌∷◌, pos, ◌≤ℤ◌, All, AllPairs, IsTrue, length, take};
-ghost use Rattle.cts_model.specs.tree.DrawnWires.{AreApart, IsDrawn, IsStraight, pieces, total};
-ghost use Rattle.cts_model.specs.placement.Points.{IsPointBelow};
-ghost use Rattle.cts_model.specs.report.ReportBounds.{IsSmallWire};
+ghost use Rattle.cts_model.specs.Vocabulary.{AreApart, IsDrawn, IsStraight, pieces, total, IsPointBelow, IsSmallWire};
 ghost use Rattle.cert_check.specs.Vocabulary.{AreEnds, IsFree, IsWay, Share, greatest_common, least_common, piece};
 
 use cts_model::{Point, Wire, manhattan};

@@ -1,8 +1,6 @@
 ghost use Rattle.std.specs.Prelude.{◌≡◌, ◌⊎◌, ◌<◌, ◌≤◌, ◌↔◌, ◌^◌, [], All, IsTrue, drop, length};
-ghost use Rattle.cts_model.specs.timing.ConstraintPaths.{GivesWeight};
-ghost use Rattle.cts_model.specs.netlist.Paths.{IsGate};
-ghost use Rattle.cts_model.specs.placement.Points.{IsBelow};
 ghost use Rattle.cts_model.specs.declared.report.Version.TheVariants.{Second};
+ghost use Rattle.cts_model.specs.Vocabulary.{GivesWeight, IsGate, IsBelow};
 ghost use Rattle.cert_check.specs.Vocabulary.{pair_of, path_weight, PathBroken, Judges, GivenPath};
 
 use crate::delay::path_delay;

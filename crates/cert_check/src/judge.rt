@@ -1,8 +1,5 @@
 ghost use Rattle.std.specs.Prelude.{◌≡◌, ◌≤◌, ◌^◌, All, length};
-ghost use Rattle.cts_model.specs.placement.Points.{IsBelow, IsUvBelow};
-ghost use Rattle.cts_model.specs.report.ReportBounds.{HasSmallWeight, HasSmallWeights, HasTreeBounds, IsBetweenRegisters, IsOfSize, IsSmallLead, cycle_length};
-ghost use Rattle.cts_model.specs.timing.Schedules.{IsSmallPeriod};
-ghost use Rattle.cts_model.specs.report.OneProof.{leads_prop, size_prop, tree_prop, weights_prop};
+ghost use Rattle.cts_model.specs.Vocabulary.{IsBelow, IsUvBelow, HasSmallWeight, HasSmallWeights, HasTreeBounds, IsBetweenRegisters, IsOfSize, IsSmallLead, cycle_length, IsSmallPeriod, leads_prop, size_prop, tree_prop, weights_prop};
 ghost use Rattle.cert_check.specs.SmallSinks.{IsSmallSink};
 
 use cts_model::{Constraint, Problem, Report, Sink, Uv};

@@ -1,10 +1,6 @@
 ghost use Rattle.std.specs.Prelude.{◌≡◌, ◌<◌, ◌≤◌, ◌↔◌, ◌^◌, ◌∷◌, [], IfOk, IsTrue, length};
-ghost use Rattle.cts_model.specs.timing.Constraints.{IsConstraintOf, count_of};
-ghost use Rattle.cts_model.specs.timing.Leads.{IsLedBy, IsTight, depth_of, lead_at};
-ghost use Rattle.cts_model.specs.placement.Points.{IsBelow};
-ghost use Rattle.cts_model.specs.report.ReportBounds.{IsSmallLead, LeadsAmong};
-ghost use Rattle.cts_model.specs.timing.Schedules.{arrival_of};
 ghost use Rattle.cts_model.specs.declared.report.Version.TheVariants.{Second};
+ghost use Rattle.cts_model.specs.Vocabulary.{IsConstraintOf, count_of, IsLedBy, IsTight, depth_of, lead_at, IsBelow, IsSmallLead, LeadsAmong, arrival_of};
 ghost use Rattle.cert_check.specs.Vocabulary.{Earliest, HasPaths, FitsLeads, IsTested, constraint_of, tight_constraints, NotLeast, Judges};
 
 use crate::down::are_same;

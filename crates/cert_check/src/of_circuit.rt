@@ -1,8 +1,5 @@
 ghost use Rattle.std.specs.Prelude.{◌≡◌, ◌<◌, ◌↔◌, ◌^◌, All, IfOk, IfSome, IsSomeAnd, IsTrue, length, map};
-ghost use Rattle.cts_model.specs.report.Judgements.{IsOfCircuit};
-ghost use Rattle.cts_model.specs.timing.PairLists.{IsSmallPair};
-ghost use Rattle.cts_model.specs.placement.Points.{IsBelow};
-ghost use Rattle.cts_model.specs.report.ReportBounds.{IsBetweenRegisters};
+ghost use Rattle.cts_model.specs.Vocabulary.{IsOfCircuit, IsSmallPair, IsBelow, IsBetweenRegisters};
 ghost use Rattle.cert_check.specs.Vocabulary.{AreDelaysBetween, pair_of, weight_by, NotOfCircuit, Judges, HasPaths, OfCircuit};
 
 use crate::judge::Judge;

@@ -1,5 +1,5 @@
 ghost use Rattle.std.specs.Prelude.{◌≡◌, ◌<◌, ◌↔◌, All, IsTrue, length};
-ghost use Rattle.cts_model.specs.netlist.Paths.{Captures, IsPath, Launches, Reads};
+ghost use Rattle.cts_model.specs.Vocabulary.{Captures, IsPath, Launches, Reads};
 ghost use Rattle.cert_check.specs.Vocabulary.{LeadsTo};
 
 use crate::given_path::ShownPath;

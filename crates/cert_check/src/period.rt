@@ -1,10 +1,5 @@
 ghost use Rattle.std.specs.Prelude.{◌≡◌, ◌≤◌, ◌↔◌, ◌^◌, IsTrue, All, length, pos, ◌-ℤ◌, ◌*ℤ◌, ◌≤ℤ◌};
-ghost use Rattle.cts_model.specs.timing.Constraints.{count_of};
-ghost use Rattle.cts_model.specs.timing.Cycles.{total_count, total_weight};
-ghost use Rattle.cts_model.specs.report.Judgements.{GivesPeriod, IsFromFloor};
-ghost use Rattle.cts_model.specs.placement.Points.{IsBelow};
-ghost use Rattle.cts_model.specs.report.ReportBounds.{HasSmallWeight};
-ghost use Rattle.cts_model.specs.timing.Schedules.{IsSmallPeriod};
+ghost use Rattle.cts_model.specs.Vocabulary.{count_of, total_count, total_weight, GivesPeriod, IsFromFloor, IsBelow, HasSmallWeight, IsSmallPeriod};
 ghost use Rattle.cert_check.specs.Vocabulary.{BelowFloor, CycleValue, JudgesOnce};
 
 use crate::down::are_same;

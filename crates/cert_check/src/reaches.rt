@@ -1,8 +1,5 @@
 ghost use Rattle.std.specs.Prelude.{◌≡◌, ◌<◌, ◌*◌, ◌^◌, ◌↔◌, IsTrue, All, length};
-ghost use Rattle.cts_model.specs.tree.Embeddings.{AreWiresDown, embedding_of, total_length, total_wire};
-ghost use Rattle.cts_model.specs.placement.Points.{IsBelow};
-ghost use Rattle.cts_model.specs.report.ReportLines.{number_at};
-ghost use Rattle.cts_model.specs.tree.Topologies.{IsTopology};
+ghost use Rattle.cts_model.specs.Vocabulary.{AreWiresDown, embedding_of, total_length, total_wire, IsBelow, number_at, IsTopology};
 ghost use Rattle.cert_check.specs.Vocabulary.{HasReach, Skewed, SkewDiffers, Unshown, Judges, Total, JudgesOnce};
 
 use crate::down::{are_same, difference};

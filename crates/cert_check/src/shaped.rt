@@ -1,5 +1,5 @@
 ghost use Rattle.std.specs.Prelude.{◌≤◌, IfOk, length};
-ghost use Rattle.cts_model.specs.tree.Topologies.{IsTopology};
+ghost use Rattle.cts_model.specs.Vocabulary.{IsTopology};
 ghost use Rattle.cert_check.specs.Parents.{AreParents};
 
 use crate::judge::Judge;

@@ -1,10 +1,5 @@
 ghost use Rattle.std.specs.Prelude.{◌≡◌, ◌<◌, ◌≤◌, ◌+◌, ◌*◌, ◌^◌, ◌↔◌, ◌+ℤ◌, IsTrue, IsSomeAnd, length, slice_get};
-ghost use Rattle.cts_model.specs.placement.Points.{IsBelow, IsUvBelow, apart, rotated_distance};
-ghost use Rattle.cts_model.specs.tree.Regions.{span};
-ghost use Rattle.cts_model.specs.report.ReportBounds.{ShowsAmong};
-ghost use Rattle.cts_model.specs.report.ReportLines.{number_at};
-ghost use Rattle.cts_model.specs.tree.ShownReaches.{IsPairShow, ShowsMerge, ShowsSource};
-ghost use Rattle.cts_model.specs.tree.Topologies.{numbers_below, root_of, source_of};
+ghost use Rattle.cts_model.specs.Vocabulary.{IsBelow, IsUvBelow, apart, rotated_distance, span, ShowsAmong, number_at, IsPairShow, ShowsMerge, ShowsSource, numbers_below, root_of, source_of};
 ghost use Rattle.cert_check.specs.Vocabulary.{HasReach, IsSmallSink, IsMergeShown, IsReachOver, IsSourceShown};
 
 use crate::down::{are_same, difference, sum};

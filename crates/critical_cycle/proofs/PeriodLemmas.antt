@@ -1,7 +1,7 @@
 -- What the greatest ratio says of the period, and what the answers exclude.
 use Rattle.critical_cycle.proofs.Vocabulary.{ℕ, ◌≡◌, ◌^◌, ◌*◌, ℤ, pos, negsuc, ◌+ℤ◌, ◌-ℤ◌, ◌*ℤ◌, ◌≤ℤ◌, ◌<ℤ◌, false, List, get_or, refl, subst, ap, arith, to_z, of_z, All, Contains, nat_abs, ◌↔◌, ints, All-contains_itself, Fraction, Constraint, Satisfies, count_of, IsLeastPeriodOf, ShowsPeriod, total_count, total_weight, Measure, AreWithin, constraints_at, CanTry, SatisfiesRatio, ShowsRatio, cycle_count, cycle_weight, HasForbidding, HasSmallValue, IsFloor, IsForbidden, IsNeverPeriod, IsPeriodOf, IsShownPeriod, period_of, IsForbiddenBy, IsRatioOf, IsShownRatio}
 use Rattle.std.specs.Int.{w128}
-use Rattle.cts_model.specs.timing.Schedules.{IsSmallPeriod}
+use Rattle.cts_model.specs.Vocabulary.{IsSmallPeriod}
 use Rattle.cts_model.proofs.CycleLemmas.{shown_period_is_least, forbidden_at_all}
 use Rattle.critical_cycle.specs.Floors.{IsSmallFloor}
 use Rattle.critical_cycle.specs.declared.period.Period.{Period}

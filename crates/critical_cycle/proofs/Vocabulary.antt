@@ -15,9 +15,7 @@ pub use borrow.Author.Differences.{up, down}
 pub use mir.Syntax.{w128}
 pub use Rattle.cts_base.specs.declared.fraction.Fraction.{Fraction}
 pub use Rattle.cts_model.specs.declared.constraint.Constraint.{Constraint}
-pub use Rattle.cts_model.specs.placement.Points.{IsBelow}
-pub use Rattle.cts_model.specs.timing.Constraints.{count_of, Satisfies, AreSmallConstraints}
-pub use Rattle.cts_model.specs.timing.Cycles.{total_weight, total_count, IsLeastPeriodOf, ShowsPeriod, Leads, IsCycle}
+pub use Rattle.cts_model.specs.Vocabulary.{IsBelow, count_of, Satisfies, AreSmallConstraints, total_weight, total_count, IsLeastPeriodOf, ShowsPeriod, Leads, IsCycle}
 pub use Rattle.relaxation.proofs.GainLemmas.{kept, below_size, product_read, size_within}
 pub use Rattle.relaxation.specs.Gains.{SatisfiesGains, gain_of, total_gain}
 pub use Rattle.relaxation.specs.Parents.{AreParents, EndsClimb, parent_of, Climbs, value_of}

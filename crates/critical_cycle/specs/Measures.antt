@@ -3,8 +3,7 @@
 use Rattle.std.specs.Prelude.{◌≡◌, ◌≤◌, ℕ, ℤ, pos, ◌+ℤ◌, ◌-ℤ◌, ◌*ℤ◌, ◌≤ℤ◌, ◌<ℤ◌, if◌then◌else◌, List, All, length}
 use Rattle.cts_base.specs.declared.fraction.Fraction.{Fraction}
 use Rattle.cts_model.specs.declared.constraint.Constraint.{Constraint}
-use Rattle.cts_model.specs.timing.Constraints.{count_of}
-use Rattle.cts_model.specs.timing.Cycles.{IsCycle, total_count, total_weight}
+use Rattle.cts_model.specs.Vocabulary.{count_of, IsCycle, total_count, total_weight}
 use Rattle.critical_cycle.specs.RatioSizes.{IsSmallRatio}
 use Rattle.critical_cycle.specs.declared.measure.Measure.{Measure}
 use Rattle.relaxation.specs.declared.gains.Gains.{Gains}

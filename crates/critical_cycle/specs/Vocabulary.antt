@@ -1,8 +1,6 @@
 -- The words that the contracts of this crate have in common.
 pub use Rattle.cts_model.specs.declared.constraint.Constraint.{Constraint}
-pub use Rattle.cts_model.specs.placement.Points.{IsBelow}
-pub use Rattle.cts_model.specs.timing.Constraints.{AreSmallConstraints, count_of}
-pub use Rattle.cts_model.specs.timing.Cycles.{IsCycle, IsLeastPeriodOf, total_count, total_weight}
+pub use Rattle.cts_model.specs.Vocabulary.{IsBelow, AreSmallConstraints, count_of, IsCycle, IsLeastPeriodOf, total_count, total_weight}
 pub use Rattle.relaxation.specs.Gains.{total_gain}
 pub use Rattle.relaxation.specs.Parents.{AreParents, EndsClimb, parent_of}
 pub use Rattle.relaxation.specs.declared.gains.Gains.{Gains}

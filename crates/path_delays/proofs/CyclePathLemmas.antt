@@ -3,8 +3,7 @@ use Rattle.path_delays.proofs.Vocabulary.{◌≡◌, ◌<◌, ◌≤◌, ◌+◌
 use Rattle.std.specs.Prelude.{MatchBool, drop}
 use Rattle.std.proofs.lemmas.List.{append-nil, append_assoc}
 use Rattle.std.proofs.Math.Seq.{append_snoc}
-use Rattle.cts_model.specs.timing.ConstraintPaths.{ArePathsWithin, GivesWeight}
-use Rattle.cts_model.specs.timing.Constraints.{IsConstraintOf, IsHoldConstraint, IsSetupConstraint}
+use Rattle.cts_model.specs.Vocabulary.{ArePathsWithin, GivesWeight, IsConstraintOf, IsHoldConstraint, IsSetupConstraint}
 
 -- paths of the constraints from this place on, for which there is room, come after those before
 abbrev pub AreEarlierPaths : Circuit → Tech → (cycle : List Constraint) → (place room : ℕ)

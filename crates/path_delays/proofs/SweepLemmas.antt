@@ -1,7 +1,7 @@
 -- The sweep over the signals: what registers launch, then gate after gate, then what is captured.
 use Rattle.path_delays.proofs.Vocabulary.{◌≡◌, ◌+◌, ◌*◌, ◌^◌, ◌<◌, ◌⊎◌, ℕ, ℤ, pos, ◌+ℤ◌, ◌*ℤ◌, true, IsTrue, List, [], ◌∷◌, ◌++◌, length, take, set, get_or, replicate, All, Contains, Option, Some, None, inl, inr, refl, sym, ◌∙◌, ap, subst, arith, nat_abs, slice_get, IfSome, option_map, cases_eq, cases_lt, ints, length-replicate, get_or-replicate, get_or_past, length-set, get_or-set_same, get_or-set_other, get_or-take, length-take-le, take_more, take_all, Contains-get_or, Contains-push_cases, same_Some, slice_get_within, slice_get_read, slice_get-get_or, get_or_from_slice_get, Signal, Circuit, Tech, least_through, greatest_through, is_gate, is_valid, Reads, Launches, Captures, IsTopologicalOrder, IsGate-from_Reads, gate_within, Sums, Window, along, AreExtremesIfAny, AreLaunchedBy, AreShownBy, Comes, IsJoinedAt, StandsAt, gate_sums_at, gate_sums, AreAround, sums_through, window_along, IsHullIfAny, IsWindowBelow, ComesTo, AreWindows, window_after, either_window, window_at, AreBelow, IsGateWindow, AreCaptures, BegunTo, start_window, window_limit, sums_of, sums_in, scaled_delay, AreSwept, StartsBelow, NoneHanded, HandedToPassed, AreLaunched, ArePassed}
-use Rattle.cts_model.specs.declared.schedule.Schedule.{Schedule}
-use Rattle.cts_model.specs.timing.Schedules.{arrival_of}
+use Rattle.path_delays.specs.Types.{Schedule}
+use Rattle.cts_model.specs.Vocabulary.{arrival_of}
 use Rattle.path_delays.proofs.CarryLemmas.{IsHandedBy, carried_end, carried_joined, carried_none, carried_same, extremes_of_extremes, gate_around, gate_shown, listed_next, shown_start}
 use Rattle.path_delays.proofs.SumLemmas.{around_itself}
 use Rattle.path_delays.proofs.NetworkDelays.{gate_sums_are}

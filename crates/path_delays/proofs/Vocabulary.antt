@@ -24,13 +24,8 @@ pub use Rattle.cts_model.specs.declared.kind.Kind.TheVariants.{And, Nand, Or, No
 pub use Rattle.cts_model.specs.declared.signal.Signal.{Signal}
 pub use Rattle.cts_model.specs.declared.tech.Tech.{Tech}
 pub use Rattle.cts_model.specs.declared.timing.PairDelay.{PairDelay}
-pub use Rattle.cts_model.specs.netlist.Circuits.{has_host, gate_inputs}
-pub use Rattle.cts_model.specs.netlist.Kinds.{is_host, is_valid, is_gate, place_of, is_input, is_register}
-pub use Rattle.cts_model.specs.netlist.Paths.{register_signal, Captures, Follows, Reads, IsPath, IsInput, Launches, IsGate}
+pub use Rattle.cts_model.specs.Vocabulary.{has_host, gate_inputs, is_host, is_valid, is_gate, place_of, is_input, is_register, register_signal, Captures, Follows, Reads, IsPath, IsInput, Launches, IsGate, least_delay, greatest_delay, delay_of, least_gate_delay, greatest_gate_delay, least_through, greatest_through, ComesBefore, IsPairDelay, ListsPairs, JoinsMoreThan, IsSmallPair}
 pub use Rattle.cts_model.specs.table.Tables.{IsWithin, IsGateDelay}
-pub use Rattle.cts_model.specs.timing.Delays.{least_delay, greatest_delay, delay_of, least_gate_delay, greatest_gate_delay, least_through, greatest_through}
-pub use Rattle.cts_model.specs.timing.EqualArrivals.{ComesBefore, IsPairDelay}
-pub use Rattle.cts_model.specs.timing.PairLists.{ListsPairs, JoinsMoreThan, IsSmallPair}
 pub use Rattle.gate_order.proofs.ReadLemmas.{IsGate-from_Reads, Contains-cons, gate_within}
 pub use Rattle.gate_order.specs.GroupParts.{group_of, HasGroups, bounds_of}
 pub use Rattle.gate_order.specs.Orders.{IsTopologicalOrder}

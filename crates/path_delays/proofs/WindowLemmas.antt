@@ -1,6 +1,6 @@
 -- Times and windows in memory, and those that are put at signals and registers.
 use Rattle.path_delays.proofs.Vocabulary.{◌≡◌, ◌+◌, ◌*◌, ◌≤◌, ◌^◌, ℕ, ℤ, pos, ◌+ℤ◌, ◌*ℤ◌, true, false, cond, IsTrue, ◌⊎◌, List, [], ◌∷◌, ◌++◌, length, Option, Some, None, inl, inr, refl, sym, ◌∙◌, ap, subst, arith, w64, w128, slice_get, option_map, mul-add, cases_lt, ints, to_z-of_z, length_push, get_or_push, get_or_append_left, same_Some, slice_get_within, slice_get-get_or, get_or_from_slice_get, Signal, Circuit, is_gate, is_host, is_valid, Kind, Host, Tech, gate_inputs, Captures, IsWithin, Window, Sums, AreExtremesIfAny, StandsAt, IsWindowBelow, gate_sums, AreWithin, either_sums, merged_windows, either_window, window_at, AreBelow, AreCaptures, sums_in, sums_of}
-use Rattle.cts_model.specs.placement.Points.{IsBelow}
+use Rattle.cts_model.specs.Vocabulary.{IsBelow}
 use Rattle.path_delays.proofs.CaptureLemmas.{few_inputs}
 use Rattle.path_delays.proofs.DelayLemmas.{gate_within, weight_of}
 use Rattle.path_delays.proofs.Rooms.{within_higher}

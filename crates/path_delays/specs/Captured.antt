@@ -1,7 +1,7 @@
 -- Which registers capture each signal.
 use Rattle.std.specs.Prelude.{◌≡◌, ◌<◌, ◌≤◌, ◌+◌, ◌*◌, ◌↔◌, ℕ, IsTrue, List, length, All, Contains}
-use Rattle.cts_model.specs.declared.circuit.Circuit.{Circuit}
-use Rattle.cts_model.specs.netlist.Paths.{Captures}
+use Rattle.path_delays.specs.Types.{Circuit}
+use Rattle.cts_model.specs.Vocabulary.{Captures}
 use Rattle.gate_order.specs.declared.groups.Groups.{Groups}
 use Rattle.gate_order.specs.GroupParts.{bounds_of, group_of}
 use Rattle.path_delays.specs.NumberSets.{has_number}

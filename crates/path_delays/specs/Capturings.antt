@@ -1,7 +1,7 @@
 -- The registers that capture what a walk reached.
 use Rattle.std.specs.Prelude.{◌≡◌, ◌<◌, ◌+◌, ◌*◌, ◌^◌, ℕ, false, IsTrue, IsSome, List, [], ◌∷◌, length, map, All, AllPairs, Contains, Some, None, slice_index_or}
-use Rattle.cts_model.specs.declared.circuit.Circuit.{Circuit}
-use Rattle.cts_model.specs.netlist.Paths.{Captures, IsPath}
+use Rattle.path_delays.specs.Types.{Circuit}
+use Rattle.cts_model.specs.Vocabulary.{Captures, IsPath}
 use Rattle.gate_order.specs.GroupParts.{bounds_of, group_of}
 use Rattle.path_delays.specs.declared.capturing.Capturing.{Capturing}
 use Rattle.path_delays.specs.declared.capturing.Capture.{Capture}

@@ -1,10 +1,7 @@
 -- Sums that are carried from where they start, over gates, to all that they reach.
 use Rattle.std.specs.Prelude.{◌≡◌, ◌≢◌, ◌↔◌, ℕ, List, [], ◌∷◌, Option, Some, None, Contains, slice_get}
-use Rattle.cts_model.specs.declared.signal.Signal.{Signal}
-use Rattle.cts_model.specs.declared.circuit.Circuit.{Circuit}
-use Rattle.cts_model.specs.declared.tech.Tech.{Tech}
-use Rattle.cts_model.specs.netlist.Paths.{Follows, Launches, Reads}
-use Rattle.cts_model.specs.timing.Delays.{least_gate_delay, greatest_gate_delay}
+use Rattle.path_delays.specs.Types.{Signal, Circuit, Tech}
+use Rattle.cts_model.specs.Vocabulary.{Follows, Launches, Reads, least_gate_delay, greatest_gate_delay}
 use Rattle.path_delays.specs.declared.sums.Sums.{Sums}
 use Rattle.path_delays.specs.SumParts.{AreAround, IsAround, either_sums, sums_through}
 

@@ -1,9 +1,7 @@
 -- The paths of constraints, one put after the other while there is room.
 use Rattle.std.specs.Prelude.{◌≡◌, ◌≤◌, ◌<◌, ◌++◌, ℕ, List, [], length, Some, slice_get, if◌then◌else◌}
-use Rattle.cts_model.specs.declared.circuit.Circuit.{Circuit}
-use Rattle.cts_model.specs.declared.constraint.Constraint.{Constraint}
-use Rattle.cts_model.specs.declared.tech.Tech.{Tech}
-use Rattle.cts_model.specs.timing.ConstraintPaths.{ArePathsWithin, GivesWeight}
+use Rattle.path_delays.specs.Types.{Circuit, Constraint, Tech}
+use Rattle.cts_model.specs.Vocabulary.{ArePathsWithin, GivesWeight}
 use Rattle.path_delays.specs.declared.walk.Walk.{Walk}
 use Rattle.path_delays.specs.WalkParts.{HasReachBetween}
 

@@ -1,9 +1,7 @@
 -- Paths whose delay is the greatest of all between two registers, or the least.
 use Rattle.std.specs.Prelude.{◌≡◌, ◌≤ℤ◌, ℤ, ℕ, Bool, true, false, List, Option, Some, None, MatchOption}
-use Rattle.cts_model.specs.declared.circuit.Circuit.{Circuit}
-use Rattle.cts_model.specs.declared.tech.Tech.{Tech}
-use Rattle.cts_model.specs.netlist.Paths.{IsPath}
-use Rattle.cts_model.specs.timing.Delays.{least_delay, greatest_delay}
+use Rattle.path_delays.specs.Types.{Circuit, Tech}
+use Rattle.cts_model.specs.Vocabulary.{IsPath, least_delay, greatest_delay}
 use Rattle.path_delays.specs.declared.sums.Sums.{Sums}
 use Rattle.path_delays.specs.declared.walk.Walk.{Walk}
 use Rattle.path_delays.specs.WalkParts.{sums_to}

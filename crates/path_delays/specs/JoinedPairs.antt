@@ -1,11 +1,7 @@
 -- The pairs that paths join, from one register after the other.
 use Rattle.std.specs.Prelude.{◌≡◌, ◌≤◌, ℕ, List, length, All, Option, Some, IsSome, IsSomeAnd, MatchOption, slice_get}
-use Rattle.cts_model.specs.declared.circuit.Circuit.{Circuit}
-use Rattle.cts_model.specs.declared.tech.Tech.{Tech}
-use Rattle.cts_model.specs.declared.timing.PairDelay.{PairDelay}
-use Rattle.cts_model.specs.netlist.Paths.{IsPath}
-use Rattle.cts_model.specs.timing.EqualArrivals.{IsPairDelay, ComesBefore}
-use Rattle.cts_model.specs.timing.PairLists.{AreOrdered, IsListed, ListsPairs, JoinsMoreThan, IsSmallPair}
+use Rattle.path_delays.specs.Types.{Circuit, Tech, PairDelay}
+use Rattle.cts_model.specs.Vocabulary.{IsPath, IsPairDelay, ComesBefore, AreOrdered, IsListed, ListsPairs, JoinsMoreThan, IsSmallPair}
 use Rattle.path_delays.specs.declared.fault.PairFault.{PairFault}
 use Rattle.path_delays.specs.declared.fault.PairFault.TheVariants.{TooManyPairs, NoMemory}
 

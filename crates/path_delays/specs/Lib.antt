@@ -18,3 +18,4 @@ pub mod Windows
 pub mod WindowParts
 pub mod CyclePaths
 pub mod Vocabulary
+pub mod Types

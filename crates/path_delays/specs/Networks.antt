@@ -2,13 +2,8 @@
 -- delays.
 use Rattle.std.specs.Prelude.{◌≡◌, ◌≢◌, ◌<◌, ◌≤◌, ◌+◌, ◌-◌, ◌↔◌, ℕ, pos, List, [], length, map, take, All, AllPairs, Contains, Some, if◌then◌else◌, slice_get, slice_index}
 use Rattle.std.specs.List.{sum_by}
-use Rattle.cts_model.specs.declared.signal.Signal.{Signal}
-use Rattle.cts_model.specs.declared.circuit.Circuit.{Circuit}
-use Rattle.cts_model.specs.declared.tech.Tech.{Tech}
-use Rattle.cts_model.specs.netlist.Kinds.{is_gate}
-use Rattle.cts_model.specs.netlist.Circuits.{gate_inputs}
-use Rattle.cts_model.specs.netlist.Paths.{Captures, IsGate, IsInput, Reads}
-use Rattle.cts_model.specs.timing.Delays.{least_gate_delay, greatest_gate_delay}
+use Rattle.path_delays.specs.Types.{Signal, Circuit, Tech}
+use Rattle.cts_model.specs.Vocabulary.{is_gate, gate_inputs, Captures, IsGate, IsInput, Reads, least_gate_delay, greatest_gate_delay}
 use Rattle.gate_order.specs.declared.groups.Groups.{Groups}
 use Rattle.gate_order.specs.GroupParts.{bounds_of, group_of}
 use Rattle.path_delays.specs.declared.sums.Sums.{Sums}

@@ -1,9 +1,7 @@
 -- What a register reaches: the least and the greatest sum of delays from it to each signal.
 use Rattle.std.specs.Prelude.{◌≡◌, ◌≤ℤ◌, ℕ, List, [], ◌∷◌, Option, Some, None}
-use Rattle.cts_model.specs.declared.circuit.Circuit.{Circuit}
-use Rattle.cts_model.specs.declared.tech.Tech.{Tech}
-use Rattle.cts_model.specs.netlist.Paths.{Follows, Launches}
-use Rattle.cts_model.specs.timing.Delays.{least_delay, greatest_delay}
+use Rattle.path_delays.specs.Types.{Circuit, Tech}
+use Rattle.cts_model.specs.Vocabulary.{Follows, Launches, least_delay, greatest_delay}
 use Rattle.path_delays.specs.declared.sums.Sums.{Sums}
 use Rattle.path_delays.specs.SumParts.{AreWithin, delay_limit}
 

@@ -3,13 +3,8 @@ pub use Rattle.std.specs.Int.{int_min, int_max}
 pub use Rattle.std.specs.Option.{option_and_then, option_to_list, option_map}
 pub use Rattle.cts_model.specs.declared.circuit.Circuit.{Circuit}
 pub use Rattle.cts_model.specs.declared.tech.Tech.{Tech}
-pub use Rattle.cts_model.specs.netlist.Kinds.{is_gate, is_valid}
-pub use Rattle.cts_model.specs.netlist.Paths.{Reads}
-pub use Rattle.cts_model.specs.placement.Points.{IsBelow}
+pub use Rattle.cts_model.specs.Vocabulary.{is_gate, is_valid, Reads, IsBelow, ArePathsWithin, IsConstraintOf, JoinsMoreThan}
 pub use Rattle.cts_model.specs.table.Tables.{IsWithin}
-pub use Rattle.cts_model.specs.timing.ConstraintPaths.{ArePathsWithin}
-pub use Rattle.cts_model.specs.timing.Constraints.{IsConstraintOf}
-pub use Rattle.cts_model.specs.timing.PairLists.{JoinsMoreThan}
 pub use Rattle.gate_order.specs.LevelParts.{IsLevelsOf}
 pub use Rattle.path_delays.specs.Captured.{AreCapturedBy}
 pub use Rattle.path_delays.specs.Capturings.{IsCapture, registers_of, AreGathered, HasCaptureRoom, IsCapturingOf, AreAllReached}

@@ -2,11 +2,8 @@
 use Rattle.std.specs.Prelude.{◌≡◌, ◌<◌, ◌+◌, ◌*◌, ◌^◌, ◌⊎◌, ℕ, pos, ◌+ℤ◌, ◌*ℤ◌, List, length, take, Contains, Option, Some, None, nat_abs, slice_get, slice_index_or}
 use Rattle.std.specs.Option.{option_map}
 use Rattle.std.specs.Int.{int_min, int_max}
-use Rattle.cts_model.specs.declared.circuit.Circuit.{Circuit}
-use Rattle.cts_model.specs.declared.tech.Tech.{Tech}
-use Rattle.cts_model.specs.declared.schedule.Schedule.{Schedule}
-use Rattle.cts_model.specs.netlist.Paths.{Captures}
-use Rattle.cts_model.specs.timing.Schedules.{arrival_of}
+use Rattle.path_delays.specs.Types.{Circuit, Tech, Schedule}
+use Rattle.cts_model.specs.Vocabulary.{Captures, arrival_of}
 use Rattle.path_delays.specs.declared.sums.Sums.{Sums}
 use Rattle.path_delays.specs.declared.window.Window.{Window}
 use Rattle.path_delays.specs.Carrying.{AreCarried, AreExtremesIfAny, StandsAt, StartsOf, gate_sums_at}

@@ -2,13 +2,8 @@
 -- Skew Optimization", 1990. Times are in ticks over a scale.
 use Rattle.std.specs.Prelude.{◌≡◌, ◌≤ℤ◌, ◌*◌, ◌^◌, ℕ, ℤ, pos, ◌+ℤ◌, ◌*ℤ◌, List, length, All, Option, MatchOption, Some, slice_get, nat_abs}
 use Rattle.std.specs.Option.{IfSome}
-use Rattle.cts_model.specs.declared.circuit.Circuit.{Circuit}
-use Rattle.cts_model.specs.declared.tech.Tech.{Tech}
-use Rattle.cts_model.specs.declared.schedule.Schedule.{Schedule}
-use Rattle.cts_model.specs.timing.Delays.{least_delay, greatest_delay}
-use Rattle.cts_model.specs.netlist.Paths.{IsPath}
-use Rattle.cts_model.specs.placement.Points.{IsBelow}
-use Rattle.cts_model.specs.timing.Schedules.{arrival_of}
+use Rattle.path_delays.specs.Types.{Circuit, Tech, Schedule}
+use Rattle.cts_model.specs.Vocabulary.{least_delay, greatest_delay, IsPath, IsBelow, arrival_of}
 use Rattle.cts_model.specs.table.Tables.{IsWithin}
 use Rattle.path_delays.specs.declared.window.Window.{Window}
 

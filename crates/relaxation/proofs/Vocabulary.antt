@@ -10,8 +10,7 @@ pub use Rattle.std.specs.List.{slice_get, list_any}
 pub use Rattle.std.specs.Option.{option_and_then, option_or}
 pub use Rattle.std.specs.Prelude.{unsigned_abs, is_some}
 pub use Rattle.cts_model.specs.declared.constraint.Constraint.{Constraint}
-pub use Rattle.cts_model.specs.placement.Points.{IsBelow}
-pub use Rattle.cts_model.specs.timing.Constraints.{AreSmallConstraints, IsSmallConstraint}
+pub use Rattle.cts_model.specs.Vocabulary.{IsBelow, AreSmallConstraints, IsSmallConstraint}
 pub use Rattle.relaxation.specs.Gains.{AdmitsGains, SatisfiesGains, gain_of, total_gain}
 pub use Rattle.relaxation.specs.Parents.{parent_of, Climbs, AreParents, EndsClimb, HaveOwnHeads, value_of, ReachesUp}
 pub use Rattle.relaxation.specs.Relaxing.{offer_of, GivesMore, IsLeft, IsRaised, IsRelaxed, IsFarUp, IsFromZero}

@@ -1,6 +1,6 @@
 -- How large the numbers of gains are.
 use Rattle.std.specs.Prelude.{◌*◌, ◌^◌, ℤ, pos, ◌≤ℤ◌}
-use Rattle.cts_model.specs.placement.Points.{IsBelow}
+use Rattle.cts_model.specs.Vocabulary.{IsBelow}
 
 -- weights are taken at most 409,700,000,000 times, and what is taken away is below 2^79 in size
 pub record AreSmallGains (times from_setup from_hold : ℤ) : Type 0 where

@@ -1,6 +1,5 @@
 ghost use Rattle.std.specs.Prelude.{◌≡◌, ◌<◌, ◌^◌, ℕ, pos, None, All, IfSome, MatchOption, length, replicate, slice_set};
-ghost use Rattle.cts_model.specs.placement.Points.{IsBelow};
-ghost use Rattle.cts_model.specs.timing.Constraints.{AreSmallConstraints};
+ghost use Rattle.cts_model.specs.Vocabulary.{IsBelow, AreSmallConstraints};
 ghost use Rattle.relaxation.specs.Places.{place_at};
 
 use crate::gains::Gains;

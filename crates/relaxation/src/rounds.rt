@@ -1,6 +1,5 @@
 ghost use Rattle.std.specs.Prelude.{◌≡◌, ◌<◌, ◌^◌, All, IfOk, IfSome, length};
-ghost use Rattle.cts_model.specs.placement.Points.{IsBelow};
-ghost use Rattle.cts_model.specs.timing.Constraints.{AreSmallConstraints};
+ghost use Rattle.cts_model.specs.Vocabulary.{IsBelow, AreSmallConstraints};
 
 use crate::gains::Gains;
 use crate::relaxation::Relaxation;

@@ -1,5 +1,5 @@
 ghost use Rattle.std.specs.Prelude.{IfOk, length};
-ghost use Rattle.cts_model.specs.timing.Constraints.{AreSmallConstraints};
+ghost use Rattle.cts_model.specs.Vocabulary.{AreSmallConstraints};
 ghost use Rattle.relaxation.specs.Tails.{AreByTail};
 
 use cts_base::NoMemory;

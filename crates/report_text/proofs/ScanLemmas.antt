@@ -1,6 +1,6 @@
 -- Words that are taken one after the other, and a line that is read to its end.
 use Rattle.report_text.proofs.Vocabulary.{◌≡◌, ◌<◌, ◌≤◌, ℕ, nat_le, Bool, true, false, true≢false, if◌then◌else◌, List, [], ◌∷◌, ◌++◌, drop, length, Option, Some, None, Result, Ok, Err, IfOk, refl, sym, ap, ◌∙◌, subst, append_assoc, append-nil, length-append, arith, ◌+◌, ◌^◌, ℤ, pos, cond, All, map, replicate, codes, ◌*◌, get_or, set, take, signed_decimal, flat_map, le-leb, leb-true, nat_tests, drop-drop, map_push, replicate_more, drop-set-lt, drop_more, length-set, replicate-append-replicate, take_more_set, length-slice_split, none-some, All-nil, All-push, All-rest, All-same, flat_map-append, Circuit, Words, constraint_line, line_for, Constraint, Version, First, Second, IsBelow, IsPointBelow, HasSmallWeight, IsBetweenRegisters, path_line, signal_name, origin, Point, Field, Flaw, Form, Scale, LineHasFlaw, WordHasFlaw, rank, sooner_flaw, fields_of, constraint_fields, length_field, ReportFault, fault_of, words_of, Left, ReadsLine, StopsLine, TakesLine, EndsIn, Keeps, LineLeft, ReadsForm, Takes, TakesNext, flaw_in, version_text, DenotesConstraint, DenotesPath, coordinates, version_line, Bor}
-use Rattle.cts_model.specs.tree.DrawnWires.{ArePadded}
+use Rattle.cts_model.specs.Vocabulary.{ArePadded}
 use Rattle.report_text.specs.declared.field.Flaw.TheVariants as flaws
 use Rattle.report_text.specs.LineFields as field
 use Rattle.report_text.proofs.WalkLemmas.{line_first, line_read}

@@ -35,12 +35,9 @@ pub use Rattle.cts_model.specs.declared.period.PeriodShow.TheVariants.{Cycle, Fl
 pub use Rattle.cts_model.specs.declared.schedule.Lead.TheVariants.{Zero, Tight}
 pub use Rattle.cts_model.specs.declared.signal.Signal.{Signal}
 pub use Rattle.cts_model.specs.declared.tree.Show.{Show}
-pub use Rattle.cts_model.specs.declared.tree.Show.TheVariants.{Root, Pair, Sink}
-pub use Rattle.cts_model.specs.netlist.Circuits.{host_name, is_named, has_host}
-pub use Rattle.cts_model.specs.netlist.Kinds.{is_host}
-pub use Rattle.cts_model.specs.report.ReportBounds.{HasTreeBounds}
-pub use Rattle.cts_model.specs.text.Names.{is_name, is_short, is_name_byte}
-pub use Rattle.cts_model.specs.tree.Topologies.{root_of, source_of}
+pub use Rattle.cts_model.specs.declared.tree.Show.TheVariants.{Root, Pair}
+pub use Rattle.cts_model.specs.Vocabulary.{host_name, is_named, has_host, is_host, HasTreeBounds, is_name, is_short, is_name_byte, root_of, source_of}
+pub use Rattle.cts_model.specs.declared.tree.Show.TheVariants.{Sink}
 pub use Rattle.name_set.proofs.OneName.{one_register, one_signal, few_registers}
 pub use Rattle.report_text.specs.Common.{signed_decimal, range_with_len, flat_map, list_any, slice_split, after_first, position_or_len, bytes_eq, digits_value, IsLowest, fraction_text, HasSizeBelow, SpellsWhole, SpellsQuotient, HaveSmallSizes, IsNoFraction, is_slash, Fraction, Circuit, Constraint, Point, Report, Version, First, Second, Lead, Tech, Wire, register_name, IsBelow, IsPointBelow, HasSmallWeight, HasSmallWeights, IsBetweenRegisters, ShowsPeriodAmong, count_in, cycle_length, HasTimingBounds, IsMergeShow, IsOfSize, IsSmallWire, IsSourceShow, IsWithinBounds, ShowsAmong, Spells, LeadsAmong, IsSmallLead, lead_line, lines_below, merge_line_at, no_wire, node_line_at, origin, period_show_lines, register_line_at, report_lines, show_words, source_line, timing_lines, tree_lines, version_line, path_line, signal_name, number_at, length_text, pathed_lines, point_words, wire_words, Words, line_for, count_line, period_line, register_line, text_of, line_of, constraint_line, slack_text, IsSmallPeriod, arrival_of, AreSmallSlacks, IsSmallSlack, grid_of, scheduled_length, register_names, ReportFault, NoMemory, Extra, BadLine, Missing, Flaw, Form, Scale, Heading, Parts, Timed, MergeLine, NodeLine, SourceLine}
 pub use Rattle.report_text.proofs.DenotedLines.{reaches_in, shows_in, places_in, timed_line, lines_after, denoted_lines, lines_of}

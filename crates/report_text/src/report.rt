@@ -1,6 +1,6 @@
 ghost use Rattle.std.specs.Prelude.{◌≡◌, IfOk};
 ghost use Rattle.report_text.specs.Vocabulary.{Tech, text_of, IsOfSize, IsWithinBounds, HasSmallLengths, report_lines};
-ghost use Rattle.cts_model.specs.report.OneProof.{size_prop};
+ghost use Rattle.cts_model.specs.Vocabulary.{size_prop};
 
 use crate::timing::push_timing;
 use crate::tree::push_tree;

@@ -14,10 +14,7 @@ pub use Rattle.critical_cycle.specs.declared.measure.Measure.{Measure}
 pub use Rattle.cts_base.specs.declared.fraction.Fraction.{Fraction}
 pub use Rattle.cts_model.proofs.ScaleLemmas.{size_same}
 pub use Rattle.cts_model.specs.declared.constraint.Constraint.{Constraint}
-pub use Rattle.cts_model.specs.placement.Points.{IsBelow}
-pub use Rattle.cts_model.specs.timing.Constraints.{count_of, AreSmallConstraints}
-pub use Rattle.cts_model.specs.timing.Cycles.{total_count, total_weight, IsCycle, Leads}
-pub use Rattle.cts_model.specs.timing.Schedules.{IsMarginPeriod, arrival_of}
+pub use Rattle.cts_model.specs.Vocabulary.{IsBelow, count_of, AreSmallConstraints, total_count, total_weight, IsCycle, Leads, IsMarginPeriod, arrival_of}
 pub use Rattle.safety_margin.specs.Margins.{ShowsMargin, Spares, SparesNoMore, HasNoCycle, IsOver, SparesOne}
 pub use Rattle.safety_margin.specs.RatioMargins.{IsMarginAt, IsMeasureAt, IsBelowAll}
 pub use Rattle.safety_margin.specs.Sharing.{CanSpare, IsSmallMargin, AreGainsAt, IsShare}

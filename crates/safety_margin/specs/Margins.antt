@@ -4,8 +4,7 @@
 use Rattle.std.specs.Prelude.{◌≡◌, ◌≤◌, ℕ, ℤ, pos, ◌+ℤ◌, ◌-ℤ◌, ◌*ℤ◌, ◌≤ℤ◌, List, All, Contains, length}
 use Rattle.cts_base.specs.declared.fraction.Fraction.{Fraction}
 use Rattle.cts_model.specs.declared.constraint.Constraint.{Constraint}
-use Rattle.cts_model.specs.timing.Constraints.{count_of}
-use Rattle.cts_model.specs.timing.Cycles.{IsCycle, total_count, total_weight}
+use Rattle.cts_model.specs.Vocabulary.{count_of, IsCycle, total_count, total_weight}
 
 -- the arrival at the head is late enough, with this much to spare
 abbrev pub SparesOne : (scale : ℕ) (period margin : ℤ) (arrival : ℕ → ℤ) → Constraint → Type 0

@@ -3,8 +3,7 @@ use Rattle.std.specs.Prelude.{◌≡◌, ◌<◌, ◌≤◌, ◌*◌, ◌^◌, �
 use Rattle.std.specs.Int.{IsGcd}
 use Rattle.cts_base.specs.declared.fraction.Fraction.{Fraction}
 use Rattle.cts_model.specs.declared.schedule.Schedule.{Schedule}
-use Rattle.cts_model.specs.placement.Points.{IsBelow}
-use Rattle.cts_model.specs.timing.Schedules.{arrival_of, AreFromZero}
+use Rattle.cts_model.specs.Vocabulary.{IsBelow, arrival_of, AreFromZero}
 use Rattle.safety_margin.specs.Margins.{IsOver, Sparing}
 
 -- a multiple of both numbers from 1 on, by factors that no number above 1 divides: Knuth, "The Art

@@ -1,7 +1,5 @@
 -- The words that the contracts of this crate have in common.
-pub use Rattle.cts_model.specs.placement.Points.{IsBelow}
-pub use Rattle.cts_model.specs.timing.Constraints.{AreSmallConstraints}
-pub use Rattle.cts_model.specs.timing.Schedules.{IsMarginPeriod}
+pub use Rattle.cts_model.specs.Vocabulary.{IsBelow, AreSmallConstraints, IsMarginPeriod}
 pub use Rattle.critical_cycle.specs.RatioSizes.{IsSmallRatio}
 pub use Rattle.safety_margin.specs.Answers.{HasSmallSparing, IsMarginOf, IsUnbounded}
 pub use Rattle.safety_margin.specs.Margins.{HasNoCycle, Spares}

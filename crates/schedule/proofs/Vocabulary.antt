@@ -9,10 +9,7 @@ pub use Rattle.std.specs.Prelude.{nat_abs}
 pub use Rattle.cts_base.specs.declared.fraction.Fraction.{Fraction}
 pub use Rattle.cts_model.specs.declared.constraint.Constraint.{Constraint}
 pub use Rattle.cts_model.specs.declared.schedule.Lead.TheVariants.{Tight, Zero}
-pub use Rattle.cts_model.specs.placement.Points.{IsBelow}
-pub use Rattle.cts_model.specs.timing.Constraints.{AreSmallConstraints, IsSmallConstraint, Satisfies, count_of}
-pub use Rattle.cts_model.specs.timing.Leads.{IsTight, IsTightLead, depth_of, lead_at, EachLead, IsLead}
-pub use Rattle.cts_model.specs.timing.Schedules.{arrival_of, AreFromZero, IsSmallPeriod}
+pub use Rattle.cts_model.specs.Vocabulary.{IsBelow, AreSmallConstraints, IsSmallConstraint, Satisfies, count_of, IsTight, IsTightLead, depth_of, lead_at, EachLead, IsLead, arrival_of, AreFromZero, IsSmallPeriod}
 pub use Rattle.relaxation.proofs.GainLemmas.{gain_small, kept}
 pub use Rattle.relaxation.proofs.RelaxLemmas.{nowhere}
 pub use Rattle.relaxation.specs.Gains.{SatisfiesGains, gain_of, AdmitsGains}

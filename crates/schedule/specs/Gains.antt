@@ -3,7 +3,7 @@
 use Rattle.std.specs.Prelude.{◌≡◌, ◌<◌, ◌≤◌, ℕ, ℤ, pos, ◌*ℤ◌, ◌≤ℤ◌, List, length}
 use Rattle.cts_base.specs.declared.fraction.Fraction.{Fraction}
 use Rattle.cts_model.specs.declared.constraint.Constraint.{Constraint}
-use Rattle.cts_model.specs.timing.Schedules.{arrival_of, AreFromZero}
+use Rattle.cts_model.specs.Vocabulary.{arrival_of, AreFromZero}
 use Rattle.relaxation.specs.declared.gains.Gains.{Gains}
 use Rattle.relaxation.specs.Gains.{SatisfiesGains}
 

@@ -2,8 +2,7 @@
 use Rattle.std.specs.Prelude.{ℤ, List, length}
 use Rattle.cts_base.specs.declared.fraction.Fraction.{Fraction}
 use Rattle.cts_model.specs.declared.constraint.Constraint.{Constraint}
-use Rattle.cts_model.specs.timing.Constraints.{AreSmallConstraints}
-use Rattle.cts_model.specs.timing.Schedules.{arrival_of, AreFromZero, IsSmallPeriod}
+use Rattle.cts_model.specs.Vocabulary.{AreSmallConstraints, arrival_of, AreFromZero, IsSmallPeriod}
 
 -- what is known of the constraints, the period and the arrivals
 pub record IsGiven (constraints : List Constraint) (period : Fraction) (at : List ℤ) : Type 0 where

@@ -4,10 +4,9 @@ use Rattle.std.specs.List.{sum_by}
 use Rattle.cts_model.specs.declared.constraint.Constraint.{Constraint}
 use Rattle.cts_model.specs.declared.schedule.Lead.{Lead}
 use Rattle.cts_model.specs.declared.schedule.Lead.TheVariants.{Zero, Tight}
+use Rattle.cts_model.specs.Vocabulary.{arrival_of, IsLead, IsTight, depth_of, lead_at}
 use Rattle.schedule.specs.declared.arrivals.Arrivals.{Arrivals}
 use Rattle.schedule.specs.declared.reach.Reach.{Reach}
-use Rattle.cts_model.specs.timing.Schedules.{arrival_of}
-use Rattle.cts_model.specs.timing.Leads.{IsLead, IsTight, depth_of, lead_at}
 
 -- the register is reached
 abbrev pub IsReached : Reach → ℕ → Type 0

@@ -1,7 +1,7 @@
 -- Arrivals that are raised in place until constraints hold.
 use Rattle.std.specs.Prelude.{ℤ, List, length}
 use Rattle.cts_model.specs.declared.constraint.Constraint.{Constraint}
-use Rattle.cts_model.specs.timing.Schedules.{arrival_of, AreFromZero}
+use Rattle.cts_model.specs.Vocabulary.{arrival_of, AreFromZero}
 use Rattle.relaxation.specs.declared.gains.Gains.{Gains}
 use Rattle.schedule.specs.Gains.{AreLeastBy}
 use Rattle.schedule.specs.Schedules.{CanSchedule}

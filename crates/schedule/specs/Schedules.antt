@@ -3,8 +3,7 @@
 use Rattle.std.specs.Prelude.{◌<◌, ◌≤◌, ◌*◌, ◌-◌, ℕ, ℤ, pos, ◌*ℤ◌, ◌≤ℤ◌, List, All, length, nat_abs}
 use Rattle.cts_base.specs.declared.fraction.Fraction.{Fraction}
 use Rattle.cts_model.specs.declared.constraint.Constraint.{Constraint}
-use Rattle.cts_model.specs.timing.Constraints.{AreSmallConstraints, Satisfies}
-use Rattle.cts_model.specs.timing.Schedules.{arrival_of, AreFromZero}
+use Rattle.cts_model.specs.Vocabulary.{AreSmallConstraints, Satisfies, arrival_of, AreFromZero}
 use Rattle.relaxation.specs.Gains.{AdmitsGains}
 use Rattle.relaxation.specs.declared.gains.Gains.{Gains}
 

@@ -1,8 +1,5 @@
 -- The words that the contracts of this crate have in common.
-pub use Rattle.cts_model.specs.placement.Points.{IsBelow}
-pub use Rattle.cts_model.specs.timing.Constraints.{AreSmallConstraints}
-pub use Rattle.cts_model.specs.timing.Leads.{EachLead, depth_of, lead_at}
-pub use Rattle.cts_model.specs.timing.Schedules.{IsSmallPeriod}
+pub use Rattle.cts_model.specs.Vocabulary.{IsBelow, AreSmallConstraints, EachLead, depth_of, lead_at, IsSmallPeriod}
 pub use Rattle.relaxation.specs.Gains.{AdmitsGains}
 pub use Rattle.schedule.specs.Gains.{AreGainsOf, AreLeastArrivalsBy}
 pub use Rattle.schedule.specs.Rises.{CanRaise}

@@ -1,6 +1,5 @@
 ghost use Rattle.std.specs.Prelude.{◌↔◌, IsTrue, length};
-ghost use Rattle.cts_model.specs.timing.Constraints.{IsSmallConstraint};
-ghost use Rattle.cts_model.specs.timing.Leads.{IsTight};
+ghost use Rattle.cts_model.specs.Vocabulary.{IsSmallConstraint, IsTight};
 ghost use Rattle.relaxation.specs.Tails.{AreByTail};
 ghost use Rattle.schedule.specs.Given.{IsGiven};
 

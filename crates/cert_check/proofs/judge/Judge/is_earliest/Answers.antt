@@ -1,6 +1,6 @@
 -- The lead is the register's.
 use Rattle.cert_check.proofs.Vocabulary.{◌↔◌, ◌≤ℤ◌, IsTrue, pos, rules, subst, sym, ◌∙◌, IsConstraintOf, arrival_of}
-use Rattle.cts_model.specs.timing.Leads.{ShowsEarliest}
+use Rattle.cts_model.specs.Vocabulary.{ShowsEarliest}
 use Rattle.cert_check.proofs.judge.Judge.is_earliest.Goals as goal
 
 pub returns-then-arrival-ge0 : goal.returns-then-arrival-ge0

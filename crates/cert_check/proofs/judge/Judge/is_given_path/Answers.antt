@@ -1,6 +1,6 @@
 -- The constraint and the path stand at the place.
 use Rattle.cert_check.proofs.Vocabulary.{◌≡◌, ◌<◌, ◌≤◌, ◌⊎◌, ◌↔◌, ℕ, [], All, IsTrue, Some, ap, length, subst, sym, ◌∙◌, IfSome, slice_get, IsBetweenRegisters}
-use Rattle.cts_model.specs.timing.ConstraintPaths.{GivesWeight}
+use Rattle.cts_model.specs.Vocabulary.{GivesWeight}
 use Rattle.cert_check.proofs.ConstraintTests.{pair_among}
 use Rattle.cert_check.proofs.FirstPlaces.{at_place}
 use Rattle.cert_check.proofs.judge.Judge.is_given_path.Goals as goal
