@@ -149,7 +149,8 @@ pub ring_shows : (search : Search) (start : ℕ) (places cycle : List ℕ) (new 
 ring_shows search start places cycle new at is within is_cycle gains raise =
     let judged = subst (λ ps. IsRaise search.measure search.ratio
     (constraints_at search.constraints.now ps) new) is raise in
-    raise_shows search.measure search.constraints.now search.first _ (drop start places) search.shown
+    raise_shows search.measure search.constraints.now search.first _ (drop start places)
+    search.shown
     new search.ratio search.can search.shows at.greatest within is_cycle
     (not_kept search.measure search.ratio search.trial _ new at.at gains judged) judged
 

@@ -10,7 +10,8 @@ use Rattle.critical_cycle.specs.declared.measure.Measure.{Measure}
 use Rattle.critical_cycle.specs.declared.shown.Shown.{Shown}
 use Rattle.critical_cycle.specs.declared.shown.Shown.TheVariants.{First, Value, Never}
 
-leads_prop : (from : ℕ) (constraints : List Constraint) (to : ℕ) → IsProp (Leads from constraints to)
+leads_prop : (from : ℕ) (constraints : List Constraint) (to : ℕ) → IsProp
+    (Leads from constraints to)
 leads_prop from [] to = hlevel props
 leads_prop from (constraint ∷ constraints) to =
     ×_prop (hlevel props) (leads_prop constraint.head constraints to)

@@ -211,7 +211,8 @@ pub record IsRoomKept (gains : Gains) (old new : Relaxation) : Type 0 where
 
 -- so where one constraint is looked at, whose tail isn't above the cap
 pub IsRoomKept-one : {gains : Gains} {place : ℕ} (answer : Option ℕ) (old : Relaxation)
-    {new : Relaxation} (tail : ℤ) {constraint : Constraint} → All (IsBelow (2 ^ 94)) old.values.items
+    {new : Relaxation} (tail : ℤ) {constraint : Constraint} → All (IsBelow (2 ^ 94))
+    old.values.items
     → place < length old.constraints.now → constraint ≡ get_or old.constraints.now place nowhere
     → tail ≡ get_or old.values.items constraint.tail tail → tail ≤ℤ pos (2 ^ 93)
     → IsRelaxed old.constraints.now gains place old answer new → IsRoomKept gains old new

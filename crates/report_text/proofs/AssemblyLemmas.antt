@@ -341,7 +341,8 @@ module _ {circuit : Circuit} {tech : Tech} {parts : Parts}
       let reach = get_or_push (sinks ++ (reaches_in parts)) parts.body.source.reach (pos 0)
       node suffix
       in
-      let show = get_or_push (shows_in parts) parts.body.source.show Root (length report.topology.merges)
+      let show = get_or_push (shows_in parts) parts.body.source.show Root
+      (length report.topology.merges)
       (shows_many ∙ sym merges_many) in
       λ i. codes "source" ∷ quotient_text (reach i) grid ∷ show_words circuit (show i)
 

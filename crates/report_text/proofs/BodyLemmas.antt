@@ -15,9 +15,12 @@ read_as circuit scale other form words line old new read flawless is = search ar
 -- the three lines
 pub heading_read : (circuit : Circuit) (scale : Scale)
     (old first second new : Left) (version : Version) (period : Fraction) (count : Option ℕ)
-    → DenotesLine circuit scale form.Version (λ words version. words ≡ version_line version) old first version
+    → DenotesLine circuit scale form.Version (λ words version. words ≡ version_line version) old
+    first version
     → DenotesLine circuit scale form.Period DenotesPeriod first second period
-    → DenotesLine circuit scale form.Show (λ words count. (words ≡ shown_line count) × IsSmallCount count) second new count → HasHeading circuit old new
+    → DenotesLine circuit scale form.Show
+    (λ words count. (words ≡ shown_line count) × IsSmallCount count) second new count →
+    HasHeading circuit old new
     (record { version = version; period = period; count = count })
 heading_read circuit scale old first second new version period count is_version is_period is_show =
     record {
@@ -65,7 +68,8 @@ pathed_shown {circuit} {scale} {count} {old} {new} pathed small has = search ari
 
 -- the forms of three sections, after how many lines each has
 abbrev pub register_forms : ℕ → List Form
-register_forms count = form.Count (codes "registers") count ∷ map form.Register (range_with_len 0 count)
+register_forms count = form.Count (codes "registers") count ∷ map form.Register
+    (range_with_len 0 count)
 
 abbrev pub merge_forms : ℕ → List Form
 merge_forms count = form.Count (codes "merges") (count - 1)

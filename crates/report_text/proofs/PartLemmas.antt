@@ -170,6 +170,7 @@ module _ {circuit : Circuit} {text : List ℕ} {new : Left} {heading : Heading}
 
 -- a fault in the heading
 pub heading_fault : (circuit : Circuit) (tech : Tech) (text : List ℕ) (fault : ReportFault)
-    → ((scale : Scale) → Stops circuit scale (form.Version ∷ form.Period ∷ form.Show ∷ []) (whole text) fault)
+    → ((scale : Scale) → Stops circuit scale (form.Version ∷ form.Period ∷ form.Show ∷ [])
+    (whole text) fault)
     → fault ≢ NoMemory → HasFault circuit tech text (Some fault)
 heading_fault circuit tech text fault stops named = search arith

@@ -100,7 +100,8 @@ module _ (circuit : Circuit) (tech : Tech) (report : Report) (size : IsOfSize ci
   reach_same =
       let at = arrival_of report.schedule.at in
       let rest = drop count report.tree.reach in
-      let sinks = ap (map (sink_reach tech)) (map-map (λ (row : Timed). row.arrival) (timed_at report)
+      let sinks = ap (map (sink_reach tech))
+      (map-map (λ (row : Timed). row.arrival) (timed_at report)
       (range_with_len 0 count)) ∙ told_first (sink_reach tech) at report.tree.reach count (pos 0)
       (omega (arith, size.reaches))
       (λ k within. bounds.tree.sinks k (omega (arith, within, size.arrivals))) in
@@ -110,13 +111,15 @@ module _ (circuit : Circuit) (tech : Tech) (report : Report) (size : IsOfSize ci
       let last : 2 * count - 1 ≡ count + (count - 1) = omega (arith, some) in
       let source = ap (number_at report.tree.reach) last
       ∙ sym (get_or-drop count report.tree.reach (count - 1) (pos 0)) in
-      append_assoc (map (sink_reach tech) (report_denoted tech parts).schedule.at) (reaches_in parts)
+      append_assoc (map (sink_reach tech) (report_denoted tech parts).schedule.at)
+      (reaches_in parts)
       (number_at report.tree.reach (2 * count - 1) ∷ []) ∙ ap₂ (λ xs ys. xs ++ ys) sinks
       (ap₂ (λ xs x. xs ++ x ∷ []) merges source ∙ with_last rest _ (pos 0)
       (omega (arith, long, some))) ∙ take-append-drop count report.tree.reach
 
   -- the source stands where the root's wire begins
-  begin_same : begin_of (report_denoted tech parts).wires ≡ get_or report.tree.place (2 * count - 1) origin
+  begin_same : begin_of (report_denoted tech parts).wires ≡ get_or report.tree.place (2 * count - 1)
+      origin
   begin_same = search (arith, wires_same, unwrap_or-slice_get, slice_get-get_or, some)
 
   pub report_same : report_denoted tech parts ≡ report

@@ -177,7 +177,8 @@ module _ (circuit : Circuit) (scale : Scale) where
       ((form.Count keyword count ∷ map due (range_with_len first count)) ++ more) old
       → Passed circuit scale more (Counted circuit scale keyword due Says first count old)
   counted_passed keyword due Says first count more few found old sound =
-      let line = denoted_passed _ _ _ _ (λ words (denoted : ℕ). words ≡ count_line keyword count) old (λ words some flawless. (
+      let line = denoted_passed _ _ _ _ (λ words (denoted : ℕ). words ≡ count_line keyword count)
+      old (λ words some flawless. (
         0,
         count_found circuit scale keyword count words few flawless,
       )) sound in
@@ -211,7 +212,8 @@ module _ (circuit : Circuit) (scale : Scale) where
       (register_forms count ++ lead_forms version count ++ merge_forms count ++ form.Source
       ∷ node_forms count) (form.Total ∷ []) more ∙ sections_apart (register_forms count)
       (lead_forms version count) (merge_forms count) (form.Source ∷ node_forms count) last) sound in
-      let timings = counted_passed (codes "registers") form.Register (DenotesTimed circuit scale) 0 count
+      let timings = counted_passed (codes "registers") form.Register (DenotesTimed circuit scale) 0
+      count
       (lead_forms version count ++ (merge_forms count ++ (form.Source ∷ node_forms count ++ last)))
       (omega (arith, few)) (λ number words within some. timed_found circuit scale number words
       small) old apart in
@@ -224,7 +226,8 @@ module _ (circuit : Circuit) (scale : Scale) where
       let source = denoted_passed circuit scale form.Source (node_forms count ++ last)
       (SaysSource circuit scale.grid) merged.new
       (λ words there. source_found circuit scale words small) merged.rest in
-      let placed = counted_passed (codes "nodes") form.Node (SaysNode scale.grid) 0 (2 * count - 1) last
+      let placed = counted_passed (codes "nodes") form.Node (SaysNode scale.grid) 0 (2 * count - 1)
+      last
       (omega (arith, few)) (λ number words within some. node_found circuit scale number words small
       (omega (arith, few, within)) some) source.new source.rest in
       let total = denoted_passed circuit scale form.Total more

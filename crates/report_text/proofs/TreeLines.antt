@@ -84,7 +84,8 @@ merge_plain circuit scale node words line small below says =
 -- its fields, by whether the root shows it
 abbrev pub shown_fields : Scale → (root : Bool) → List Field
 shown_fields scale root = field.Word (codes "source") ∷ length_field scale
-    ∷ (if root then field.Word (codes "root") ∷ [] else field.Word (codes "sink") ∷ field.Register ∷ [])
+    ∷ (if root then field.Word (codes "root") ∷ [] else field.Word (codes "sink") ∷ field.Register ∷
+    [])
 
 pub source_found : (circuit : Circuit) (scale : Scale) (words : Words) → IsSmallScale scale
     → IsFlawless circuit scale form.Source words

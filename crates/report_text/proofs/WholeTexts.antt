@@ -554,8 +554,10 @@ module _ {circuit : Circuit} {tech : Tech} {parts : Parts}
       parts.shown.shown parts.shown.paths)) (sym is.count))) is.period
       (subst IsSmallCount (sym is.count) (small_shown parts.shown.shown is.shown.weights)) circuit
       tech None (subst (λ counted. HasFirstFault circuit scale (forms_of parts.heading.version
-      (unwrap_or counted 0) count) 1 (text_of lines) None) (sym is.count) (no_first_fault circuit scale
-      (forms_of parts.heading.version (unwrap_or (count_shown parts.shown.shown) 0) count) lines 1 are
+      (unwrap_or counted 0) count) 1 (text_of lines) None) (sym is.count)
+      (no_first_fault circuit scale
+      (forms_of parts.heading.version (unwrap_or (count_shown parts.shown.shown) 0) count) lines 1
+      are
       parts_flawless))
 
 -- two reports of a text are the same

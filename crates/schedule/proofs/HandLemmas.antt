@@ -16,7 +16,8 @@ pub record IsTaking (arrivals : Arrivals)
   pub reaching : IsReaching arrivals (length arrivals.at.now) reach
   pub within : taken ≤ length reach.queue.items
   pub handed : (turn place : ℕ) (default : Constraint)
-      → turn < taken → place < length arrivals.constraints.now → (get_or arrivals.constraints.now place default).tail
+      → turn < taken → place < length arrivals.constraints.now →
+      (get_or arrivals.constraints.now place default).tail
       ≡ get_or reach.queue.items turn 0 → IsHandedBy arrivals reach place
 
 -- nothing changed
@@ -45,7 +46,8 @@ above_zero (negsuc n) from late = absurd (omega (arith, ints))
 
 module _ {arrivals : Arrivals} {old : Reach}
     (reaching : IsReaching
-    arrivals (length arrivals.at.now) old) (place : ℕ) (within : place < length arrivals.constraints.now) where
+    arrivals (length arrivals.at.now) old) (place : ℕ)
+    (within : place < length arrivals.constraints.now) where
   -- the constraint
   abbrev it : Constraint
   it = get_or arrivals.constraints.now place nowhere
@@ -55,10 +57,12 @@ module _ {arrivals : Arrivals} {old : Reach}
   head = (arrivals.given.small.each place nowhere within).head
 
   module _ (tail : IsReached old it.tail)
-      (first : get_or old.reached.items it.head false ≡ false) (tight : IsTight arrivals.period arrivals.at.now it)
+      (first : get_or old.reached.items it.head false ≡ false)
+      (tight : IsTight arrivals.period arrivals.at.now it)
       (depth : ℕ) (depth_is : depth ≡ 1 + depth_of (lead_at old.leads.items it.tail)) where
     -- it leads to its head
-    led : IsTightLead (Contains arrivals.constraints.now) arrivals.period arrivals.at.now old.leads.items it.head depth it
+    led : IsTightLead (Contains arrivals.constraints.now) arrivals.period arrivals.at.now
+        old.leads.items it.head depth it
     led = record {
       late = above_zero (arrival_of arrivals.at.now it.head) (arrivals.given.from_zero it.head head)
           (λ zero. true≢false (sym (reaching.zeros it.head head zero) ∙ first));
@@ -82,13 +86,15 @@ module _ {arrivals : Arrivals} {old : Reach}
       )) (length arrivals.at.now) head (omega arith) (λ other early. inl early);
       handed = λ default is.
           subst (λ (c : Constraint). IsReached new c.head) (get_or_default
-          arrivals.constraints.now place nowhere default within) (flag_here reaching added head first);
+          arrivals.constraints.now place nowhere default within)
+          (flag_here reaching added head first);
     }
 
 module _ {arrivals : Arrivals}
     {register mark : ℕ} {old : Reach} where
   -- at first all constraints are left
-  pub IsHanding-none : IsReaching arrivals (length arrivals.at.now) old → IsLastBefore arrivals.constraints.now
+  pub IsHanding-none : IsReaching arrivals (length arrivals.at.now) old → IsLastBefore
+      arrivals.constraints.now
       (length arrivals.constraints.now) register mark → IsHanding arrivals register mark old old
   IsHanding-none reaching last = record {
     handed = record {
@@ -107,7 +113,8 @@ module _ {arrivals : Arrivals}
   -- the mark's constraint is looked at
   pub IsHanding-more : {now new : Reach} → IsHanding arrivals register mark old now
       → (place : ℕ) → place + 1 ≡ mark → IsGrown arrivals place now new → (before : ℕ)
-      → IsLastBefore arrivals.constraints.now place (get_or arrivals.constraints.now place nowhere).tail before
+      → IsLastBefore arrivals.constraints.now place
+      (get_or arrivals.constraints.now place nowhere).tail before
       → IsHanding arrivals register before old new
   IsHanding-more {now} {new} handing place place_is grown before last = record {
     handed = record {
@@ -128,7 +135,8 @@ module _ {arrivals : Arrivals}
       tail = handing.next.here place nowhere place_is
 
       -- what is looked at now
-      handed : (other : ℕ) (default : Constraint) → before ≤ other → other < length arrivals.constraints.now
+      handed : (other : ℕ) (default : Constraint) → before ≤ other → other < length
+          arrivals.constraints.now
           → (get_or arrivals.constraints.now other default).tail ≡ register
           → IsHandedBy arrivals new other
       handed other default past within is = elim (cases_lt place other) [
@@ -156,7 +164,8 @@ module _ {arrivals : Arrivals} {taken : ℕ}
     where
       -- what is handed on by those that are taken
       handed : (turn place : ℕ) (default : Constraint)
-          → turn < taken + 1 → place < length arrivals.constraints.now → (get_or arrivals.constraints.now place default).tail
+          → turn < taken + 1 → place < length arrivals.constraints.now →
+          (get_or arrivals.constraints.now place default).tail
           ≡ get_or new.queue.items turn 0 → IsHandedBy arrivals new place
       handed turn place default early within is = elim (cases_eq turn taken) [
         | inl same ↦ more.handed place default (omega arith)

@@ -50,7 +50,8 @@ module _ {arrivals : Arrivals} {reach : Reach} (whole : IsWhole arrivals reach)
 
   -- they are from 0 on
   all_from_zero : AreFromZero (length arrivals.at.now) lowered
-  all_from_zero register within = lowered_from_zero (flag register) (arrival_of arrivals.at.now register)
+  all_from_zero register within = lowered_from_zero (flag register)
+      (arrival_of arrivals.at.now register)
       (least.from_zero register within) (whole.reaching.zeros register within)
 
   -- the denominator is its size
@@ -58,19 +59,25 @@ module _ {arrivals : Arrivals} {reach : Reach} (whole : IsWhole arrivals reach)
   den_is = size_same arrivals.period.den (omega (arith, ints, arrivals.period.lowest.some_den))
 
   -- they satisfy the constraints
-  all_met : Satisfies arrivals.constraints.now (nat_abs arrivals.period.den) arrivals.period.num lowered
+  all_met : Satisfies arrivals.constraints.now (nat_abs arrivals.period.den) arrivals.period.num
+      lowered
   all_met place default within =
       let it : Constraint = get_or arrivals.constraints.now place default in
-      lowered_met (flag it.tail) (flag it.head) (arrival_of arrivals.at.now it.tail) (arrival_of arrivals.at.now it.head)
+      lowered_met (flag it.tail) (flag it.head) (arrival_of arrivals.at.now it.tail)
+      (arrival_of arrivals.at.now it.head)
       (pos (nat_abs arrivals.period.den) *ℤ it.weight) (arrivals.period.num *ℤ pos (count_of it))
       (least.satisfies place default within) (λ reached tight. whole.handed place
-      default within reached default (subst (λ z. arrival_of arrivals.at.now it.head -ℤ arrival_of arrivals.at.now it.tail
+      default within reached default (subst
+      (λ z. arrival_of arrivals.at.now it.head -ℤ arrival_of arrivals.at.now it.tail
       ≡ (z *ℤ it.weight) -ℤ (arrivals.period.num *ℤ pos (count_of it))) den_is tight))
 
   -- at the same scale, taken once
-  all_met_once : Satisfies arrivals.constraints.now (nat_abs arrivals.period.den * 1) (arrivals.period.num *ℤ pos 1) lowered
-  all_met_once = subst (λ n. Satisfies arrivals.constraints.now n (arrivals.period.num *ℤ pos 1) lowered)
-      (omega arith) (subst (λ (z : ℤ). Satisfies arrivals.constraints.now (nat_abs arrivals.period.den) z lowered)
+  all_met_once : Satisfies arrivals.constraints.now (nat_abs arrivals.period.den * 1)
+      (arrivals.period.num *ℤ pos 1) lowered
+  all_met_once = subst (λ n. Satisfies arrivals.constraints.now n (arrivals.period.num *ℤ pos 1)
+      lowered)
+      (omega arith) (subst (λ (z : ℤ). Satisfies arrivals.constraints.now
+      (nat_abs arrivals.period.den) z lowered)
       (once_is arrivals.period.num) all_met)
 
   -- so each is reached
@@ -79,9 +86,11 @@ module _ {arrivals : Arrivals} {reach : Reach} (whole : IsWhole arrivals reach)
       (least.least 1 lowered (omega arith) all_from_zero all_met_once register within)
 
   -- and has its lead
-  pub EachLead-whole : EachLead (Contains arrivals.constraints.now) arrivals.period arrivals.at.now reach.leads.items
+  pub EachLead-whole : EachLead (Contains arrivals.constraints.now) arrivals.period arrivals.at.now
+      reach.leads.items
   EachLead-whole register within = whole.reaching.led register (all_reached register within)
 
   -- which takes no more constraints than there are registers
-  pub low_depth : (register : ℕ) → depth_of (lead_at reach.leads.items register) ≤ length arrivals.at.now
+  pub low_depth : (register : ℕ) → depth_of (lead_at reach.leads.items register) ≤ length
+      arrivals.at.now
   low_depth register = omega (arith, whole.reaching.low register, whole.reaching.room)

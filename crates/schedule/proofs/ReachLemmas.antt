@@ -7,7 +7,8 @@ use Rattle.cts_model.specs.declared.schedule.Lead.{Lead}
 module _ {arrivals : Arrivals} {looked : ℕ}
     {old new : Reach} {register : ℕ} {lead : Lead}
     (reaching : IsReaching arrivals looked old) (added : IsAdded register lead old new)
-    (within : register < length arrivals.at.now) (first : get_or old.reached.items register false ≡ false) where
+    (within : register < length arrivals.at.now)
+    (first : get_or old.reached.items register false ≡ false) where
   -- the register is reached
   pub flag_here : IsReached new register
   flag_here = ap (λ (l : List Bool). get_or l register false) added.flags ∙ get_or-set_same
@@ -63,8 +64,10 @@ module _ {arrivals : Arrivals} {looked : ℕ}
   }
 
   -- a lead from what is reached stands
-  led_still : (other : ℕ) (it : Lead) → IsFromReached old it → IsLead (Contains arrivals.constraints.now) arrivals.period
-      arrivals.at.now old.leads.items other it → IsLead (Contains arrivals.constraints.now) arrivals.period arrivals.at.now new.leads.items other it
+  led_still : (other : ℕ) (it : Lead) → IsFromReached old it → IsLead
+      (Contains arrivals.constraints.now) arrivals.period
+      arrivals.at.now old.leads.items other it → IsLead (Contains arrivals.constraints.now)
+      arrivals.period arrivals.at.now new.leads.items other it
   led_still other Zero from led = led
   led_still other (Tight depth constraint) from led = record {
     late = led.late;
@@ -82,19 +85,25 @@ module _ {arrivals : Arrivals} {looked : ℕ}
   from_still Zero from = from
   from_still (Tight depth constraint) from = still constraint.tail from
 
-  module _ (led : IsLead (Contains arrivals.constraints.now) arrivals.period arrivals.at.now old.leads.items register lead)
+  module _ (led : IsLead (Contains arrivals.constraints.now) arrivals.period arrivals.at.now
+      old.leads.items register lead)
       (from : IsFromReached old lead) (low : depth_of lead ≤ length old.queue.items + 1) where
     -- each that is reached has its lead
     led_now : (other : ℕ) → IsReached new other → IsLead
-        (Contains arrivals.constraints.now) arrivals.period arrivals.at.now new.leads.items other (lead_at new.leads.items other)
+        (Contains arrivals.constraints.now) arrivals.period arrivals.at.now new.leads.items other
+        (lead_at new.leads.items other)
     led_now other reached = elim (cases_eq other register) [
       | inl same ↦
-          subst (λ r. IsLead (Contains arrivals.constraints.now) arrivals.period arrivals.at.now new.leads.items
-          r (lead_at new.leads.items r)) (sym same) (subst (IsLead (Contains arrivals.constraints.now)
-          arrivals.period arrivals.at.now new.leads.items register) (sym lead_here) (led_still register lead from led))
+          subst (λ r. IsLead (Contains arrivals.constraints.now) arrivals.period arrivals.at.now
+          new.leads.items
+          r (lead_at new.leads.items r)) (sym same)
+          (subst (IsLead (Contains arrivals.constraints.now)
+          arrivals.period arrivals.at.now new.leads.items register) (sym lead_here)
+          (led_still register lead from led))
       | inr apart ↦
           let before = sym (flag_there other apart) ∙ reached in
-          subst (IsLead (Contains arrivals.constraints.now) arrivals.period arrivals.at.now new.leads.items other)
+          subst (IsLead (Contains arrivals.constraints.now) arrivals.period arrivals.at.now
+          new.leads.items other)
           (sym (lead_there other apart)) (led_still other
           (lead_at old.leads.items other) (reaching.from other before) (reaching.led other before))
     ]

@@ -32,7 +32,8 @@ pub record IsReaching (arrivals : Arrivals)
   pub fresh : (register : ℕ) → looked ≤ register
       → slice_index_or reach.reached.items register false ≡ false
   pub led : (register : ℕ) → IsReached reach register
-      → IsLead (Contains arrivals.constraints.now) arrivals.period arrivals.at.now reach.leads.items register
+      → IsLead (Contains arrivals.constraints.now) arrivals.period arrivals.at.now reach.leads.items
+      register
       (lead_at reach.leads.items register)
   pub from : (register : ℕ) → IsReached reach register
       → IsFromReached reach (lead_at reach.leads.items register)
@@ -60,7 +61,8 @@ pub record IsReachKept (old new : Reach) : Type 0 where
 -- the constraint's head is reached, if it is tight
 abbrev pub IsHandedBy : Arrivals → Reach → (place : ℕ) → Type 0
 IsHandedBy arrivals reach place = (default : Constraint)
-    → IsTight arrivals.period arrivals.at.now (slice_index_or arrivals.constraints.now place default)
+    → IsTight arrivals.period arrivals.at.now
+    (slice_index_or arrivals.constraints.now place default)
     → IsReached reach (slice_index_or arrivals.constraints.now place default).head
 
 -- a constraint is looked at
@@ -75,7 +77,8 @@ pub record IsHanded (arrivals : Arrivals)
     (register start : ℕ) (old new : Reach) : Type 0 where
   pub keeps : IsReachKept old new
   pub reaching : IsReaching arrivals (length arrivals.at.now) new
-  pub handed : (place : ℕ) (default : Constraint) → start ≤ place → place < length arrivals.constraints.now
+  pub handed : (place : ℕ) (default : Constraint) → start ≤ place → place < length
+      arrivals.constraints.now
       → (slice_index_or arrivals.constraints.now place default).tail ≡ register
       → IsHandedBy arrivals new place
 

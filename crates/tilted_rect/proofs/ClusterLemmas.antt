@@ -292,7 +292,8 @@ pub joined_is : (self other : Cluster) (reach wide : ℤ) (grown other_grown com
     → IsReachAndRegion both wide common
 joined_is self other reach wide grown other_grown common found is joined grown_is other_grown_is
     some meeting first second both union one two = record {
-      reach = subst (λ z. IsDoubleReach both (z +ℤ z)) (sym is) (joined first second both union one two);
+      reach = subst (λ z. IsDoubleReach both (z +ℤ z)) (sym is)
+          (joined first second both union one two);
       region = grown_regions_meet_in_region first second both self.region other.region grown
           other_grown common self.reach other.reach wide union one.region two.region grown_is
           other_grown_is (subst (λ o. IfSome o (IsMeeting grown other_grown)) some meeting);

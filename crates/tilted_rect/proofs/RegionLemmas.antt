@@ -335,7 +335,8 @@ point_between extremes scale radius within =
       },
     )
 
-point_in_region : (sinks : List Sink) (twice : ℤ) (scale : ℕ) (radius : ℤ) → IsDoubleReach sinks twice
+point_in_region : (sinks : List Sink) (twice : ℤ) (scale : ℕ) (radius : ℤ) → IsDoubleReach sinks
+    twice
     → (pos scale *ℤ twice) ≤ℤ (radius +ℤ radius) → (point : Uv) × InRegion sinks scale radius point
 point_in_region [] twice scale radius reach within =
     absurd (contains_none reach.one reach.one_among)

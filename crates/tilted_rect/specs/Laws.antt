@@ -51,7 +51,8 @@ RegionHasExtremeSides = (sinks : List Sink) (extremes : Extremes) (rect : Rect) 
 
 -- a region has a point exactly where the reach is no more than its radius
 abbrev pub RegionHasPoint : Type 0
-RegionHasPoint = (sinks : List Sink) (twice : ℤ) (scale : ℕ) (radius : ℤ) → IsDoubleReach sinks twice
+RegionHasPoint = (sinks : List Sink) (twice : ℤ) (scale : ℕ) (radius : ℤ) → IsDoubleReach sinks
+    twice
     → ((point : Uv) × InRegion sinks scale radius point)
     ↔ ((pos scale *ℤ twice) ≤ℤ (radius +ℤ radius))
 
@@ -132,7 +133,8 @@ GreatestSpanIsMultiple = (first second : List Sink) (greatest : ℤ)
 
 -- so the reach is a whole number, and a multiple of 4
 abbrev pub ReachIsMultiple : Type 0
-ReachIsMultiple = (sinks : List Sink) (twice : ℤ) → AreMultiplesOf 8 sinks → IsDoubleReach sinks twice
+ReachIsMultiple = (sinks : List Sink) (twice : ℤ) → AreMultiplesOf 8 sinks → IsDoubleReach sinks
+    twice
     → (radius : ℤ) × (radius +ℤ radius ≡ twice) × IsMultipleOf 4 radius
 
 -- and the corners of the region at such a radius are multiples of 4

@@ -18,7 +18,8 @@ embedding_of tree = record {
   length = λ node. slice_index_or tree.length node (pos 0);
 }
 
--- sinks and source stand at their given places, and no edge is shorter than the distance of its ends
+-- sinks and source stand at their given places, and no edge is shorter than the distance of its
+-- ends
 pub record IsEmbedding (scale : ℕ) (sinks : List Sink) (merges : List Merge) (source : Uv)
     (tree : Embedding) : Type 0 where
   pub sinks_stand : (register : ℕ) → IfSome (slice_get sinks register)

@@ -14,8 +14,8 @@ IsSkewOf scale period tech wire wire' arrival arrival' =
     ((wire -ℤ wire') *ℤ tech.wire_num *ℤ period.den)
     ≡ ((arrival -ℤ arrival') *ℤ tech.wire_den *ℤ pos scale *ℤ grid_of period tech)
 
--- the wire delays from the source differ by exactly the scheduled skews; wire is the length from the
--- source down to each node, in grid steps
+-- the wire delays from the source differ by exactly the scheduled skews; wire is the length from
+-- the source down to each node, in grid steps
 pub record RealisesSchedule (scale : ℕ) (period : Fraction) (tech : Tech) (merges : List Merge)
     (schedule : Schedule) (tree : Embedding) : Type 0 where
   pub wire : ℕ → ℤ

@@ -7,8 +7,8 @@ use Rattle.cts_model.specs.Types.{Circuit, Tech}
 use Rattle.cts_model.specs.tree.Problems.{grid_of}
 use Rattle.cts_model.specs.timing.Timing.{Meets}
 
--- the scale: ticks are counted in parts of this size, so that the delays of wires and the period are
--- whole numbers of them
+-- the scale: ticks are counted in parts of this size, so that the delays of wires and the period
+-- are whole numbers of them
 abbrev pub delay_scale : Fraction → Tech → ℕ
 delay_scale period tech = nat_abs (period.den *ℤ grid_of period tech *ℤ tech.wire_den)
 

@@ -9,7 +9,8 @@ use Rattle.critical_cycle.proofs.raise.raise_by.Goals as goal
 
 pub measured-sums-requires-clause-weight : goal.measured-sums-requires-clause-weight
 measured-sums-requires-clause-weight c =
-    let small = small_sums c.args.cycle.now.constraints.now c.args.cycle.now.places.now c.args.cycle.now.within c.args.cycle.now.few
+    let small = small_sums c.args.cycle.now.constraints.now c.args.cycle.now.places.now
+    c.args.cycle.now.within c.args.cycle.now.few
     c.args.cycle.now.small in
     let weight = c.of.ensures.weight in
     record {
@@ -19,7 +20,8 @@ measured-sums-requires-clause-weight c =
 
 pub measured-sums-requires-clause-count : goal.measured-sums-requires-clause-count
 measured-sums-requires-clause-count c =
-    let small = small_sums c.args.cycle.now.constraints.now c.args.cycle.now.places.now c.args.cycle.now.within c.args.cycle.now.few
+    let small = small_sums c.args.cycle.now.constraints.now c.args.cycle.now.places.now
+    c.args.cycle.now.within c.args.cycle.now.few
     c.args.cycle.now.small in
     let count = c.of.ensures.count in
     record { above = omega (arith, ints, small.count); below = omega (arith, ints, small.count) }
@@ -44,10 +46,12 @@ sums_are : (measure : Measure) (cycle : Cycle) (weight count whole many : ℤ)
 sums_are measure cycle weight count whole many weighs counts whole_is many_is =
     let steps = constraints_at cycle.constraints.now cycle.places.now in
     let long = length-constraints_at cycle.constraints.now cycle.places.now cycle.within in
-    let small = small_in measure steps (small_sums cycle.constraints.now cycle.places.now cycle.within cycle.few cycle.small)
+    let small = small_in measure steps
+    (small_sums cycle.constraints.now cycle.places.now cycle.within cycle.few cycle.small)
     (omega arith) in
     let weighed_is = weighed measure steps weight count weighs counts whole whole_is in
-    let counted_is = counted measure steps weight count weighs counts (length cycle.places.now) many long
+    let counted_is = counted measure steps weight count weighs counts (length cycle.places.now) many
+    long
     many_is in
     let weight_small = most_small measure (cycle_weight measure steps) small.above small.below in
     record {
@@ -67,11 +71,13 @@ sums_are measure cycle weight count whole many weighs counts whole_is many_is =
     same z small = omega (arith, ints, small.above, small.below)
 
 pub exceed-requires-clause-weight : goal.exceed-requires-clause-weight
-exceed-requires-clause-weight c = (sums_are c.args.measure c.args.cycle.now _ _ _ _ c.of.ensures.weight
+exceed-requires-clause-weight c =
+    (sums_are c.args.measure c.args.cycle.now _ _ _ _ c.of.ensures.weight
     c.of.ensures.count c.measured-sums.ensures.weight c.measured-sums.ensures.count).weight_small
 
 pub exceed-requires-clause-count : goal.exceed-requires-clause-count
-exceed-requires-clause-count c = (sums_are c.args.measure c.args.cycle.now _ _ _ _ c.of.ensures.weight
+exceed-requires-clause-count c =
+    (sums_are c.args.measure c.args.cycle.now _ _ _ _ c.of.ensures.weight
     c.of.ensures.count c.measured-sums.ensures.weight c.measured-sums.ensures.count).count_small
 
 pub exceed-requires-clause-num : goal.exceed-requires-clause-num
@@ -80,17 +86,21 @@ exceed-requires-clause-num c =
 
 pub returns-then-not-exceed : goal.returns-then-not-exceed
 returns-then-not-exceed c =
-    let sums = sums_are c.args.measure c.args.cycle.now _ _ _ _ c.of.ensures.weight c.of.ensures.count
+    let sums = sums_are c.args.measure c.args.cycle.now _ _ _ _ c.of.ensures.weight
+    c.of.ensures.count
     c.measured-sums.ensures.weight c.measured-sums.ensures.count in
-    no_gain c.args.measure c.args.ratio (constraints_at c.args.cycle.now.constraints.now c.args.cycle.now.places.now)
+    no_gain c.args.measure c.args.ratio
+    (constraints_at c.args.cycle.now.constraints.now c.args.cycle.now.places.now)
     _ _ sums.weighs sums.counts (λ more. true≢false (sym (c.if-not-exceed.ensures.1 more)))
 
 pub returns-then-sums-eq0 : goal.returns-then-sums-eq0
 returns-then-sums-eq0 c =
-    let sums = sums_are c.args.measure c.args.cycle.now _ _ _ _ c.of.ensures.weight c.of.ensures.count
+    let sums = sums_are c.args.measure c.args.cycle.now _ _ _ _ c.of.ensures.weight
+    c.of.ensures.count
     c.measured-sums.ensures.weight c.measured-sums.ensures.count in
     never_counts c.args.measure c.args.ratio (constraints_at
-    c.args.cycle.now.constraints.now c.args.cycle.now.places.now) _ _ sums.weighs sums.counts (omega (
+    c.args.cycle.now.constraints.now c.args.cycle.now.places.now) _ _ sums.weighs sums.counts
+    (omega (
       arith,
       ints,
       sums.counts,
@@ -100,14 +110,16 @@ returns-then-sums-eq0 c =
 
 pub of-requires-2-clause-some_den : goal.of-requires-2-clause-some_den
 of-requires-2-clause-some_den c =
-    let sums = sums_are c.args.measure c.args.cycle.now _ _ _ _ c.of.ensures.weight c.of.ensures.count
+    let sums = sums_are c.args.measure c.args.cycle.now _ _ _ _ c.of.ensures.weight
+    c.of.ensures.count
     c.measured-sums.ensures.weight c.measured-sums.ensures.count in
     let some = counts_some c.measured-sums.result.count _ sums.counts c.if-sums-eq0.false in
     omega (arith, ints, sums.counts, sums.count_same, some)
 
 pub of-requires-2-clause-small_num : goal.of-requires-2-clause-small_num
 of-requires-2-clause-small_num c =
-    let sums = sums_are c.args.measure c.args.cycle.now _ _ _ _ c.of.ensures.weight c.of.ensures.count
+    let sums = sums_are c.args.measure c.args.cycle.now _ _ _ _ c.of.ensures.weight
+    c.of.ensures.count
     c.measured-sums.ensures.weight c.measured-sums.ensures.count in
     rw sums.weight_same (record {
       above = omega (arith, ints, sums.weight_small.above);
@@ -116,7 +128,8 @@ of-requires-2-clause-small_num c =
 
 pub of-requires-2-clause-small_den : goal.of-requires-2-clause-small_den
 of-requires-2-clause-small_den c =
-    let sums = sums_are c.args.measure c.args.cycle.now _ _ _ _ c.of.ensures.weight c.of.ensures.count
+    let sums = sums_are c.args.measure c.args.cycle.now _ _ _ _ c.of.ensures.weight
+    c.of.ensures.count
     c.measured-sums.ensures.weight c.measured-sums.ensures.count in
     rw sums.count_same (record {
       above = omega (arith, ints, sums.count_small.above);
@@ -126,7 +139,8 @@ of-requires-2-clause-small_den c =
 pub returns : goal.returns
 returns c =
     let steps = constraints_at c.args.cycle.now.constraints.now c.args.cycle.now.places.now in
-    let sums = sums_are c.args.measure c.args.cycle.now _ _ _ _ c.of.ensures.weight c.of.ensures.count
+    let sums = sums_are c.args.measure c.args.cycle.now _ _ _ _ c.of.ensures.weight
+    c.of.ensures.count
     c.measured-sums.ensures.weight c.measured-sums.ensures.count in
     let some = counts_some c.measured-sums.result.count _ sums.counts c.if-sums-eq0.false in
     raised c.args.measure c.args.ratio steps c.measured-sums.result.weight

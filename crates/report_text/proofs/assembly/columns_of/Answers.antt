@@ -7,26 +7,30 @@ pub tree_of-requires : goal.tree_of-requires
 tree_of-requires c =
     let at : c.in_ok-at.at.items ≡ map (λ row. row.arrival) c.args.parts.now.body.timings =
     IfOk-at_ok _ c.in_ok-at.was (items_from_collect _ c.collect.ensures.ran
-    (YieldsList-from_map _ (λ row. row.arrival) (YieldsList-from_slice c.args.parts.now.body.timings cc)
+    (YieldsList-from_map _ (λ row. row.arrival)
+    (YieldsList-from_slice c.args.parts.now.body.timings cc)
     c.map.ensures.closure (λ x r q k. search (rules, tests)))) in
     subst (All (IsBelow (10 ^ 19))) (sym at ∙ sym c.deref.ensures.value) c.requires
 
 pub returns-clause-at : goal.returns-clause-at
 returns-clause-at c = c.from_vec.ensures
     ∙ IfOk-at_ok _ c.in_ok-at.was (items_from_collect _ c.collect.ensures.ran
-    (YieldsList-from_map _ (λ row. row.arrival) (YieldsList-from_slice c.args.parts.now.body.timings cc)
+    (YieldsList-from_map _ (λ row. row.arrival)
+    (YieldsList-from_slice c.args.parts.now.body.timings cc)
     c.map.ensures.closure (λ x r q k. search (rules, tests))))
 
 pub returns-clause-slacks : goal.returns-clause-slacks
 returns-clause-slacks c = c.from_vec-2.ensures
     ∙ IfOk-at_ok _ c.in_ok-slacks.was (items_from_collect _ c.collect-2.ensures.ran
-    (YieldsList-from_map _ (λ row. row.slack) (YieldsList-from_slice c.args.parts.now.body.timings cc)
+    (YieldsList-from_map _ (λ row. row.slack)
+    (YieldsList-from_slice c.args.parts.now.body.timings cc)
     c.map-2.ensures.closure (λ x r q k. search (rules, tests))))
 
 pub returns-clause-merges : goal.returns-clause-merges
 returns-clause-merges c = c.from_vec-3.ensures
     ∙ IfOk-at_ok _ c.in_ok-merges.was (items_from_collect _ c.collect-3.ensures.ran
-    (YieldsList-from_map _ (λ row. row.merge) (YieldsList-from_slice c.args.parts.now.body.merged cc)
+    (YieldsList-from_map _ (λ row. row.merge)
+    (YieldsList-from_slice c.args.parts.now.body.merged cc)
     c.map-3.ensures.closure (λ x r q k. search (rules, tests))))
 
 pub returns-clause-shows : goal.returns-clause-shows

@@ -13,6 +13,7 @@ loop-arrival-preserved c =
     let is = c.offset.ensures ∙ ap (sink_reach tech) plain in
     let below = subst (IsBelow (10 ^ 32)) (sym is) (sink_below tech _ small) in
     c.in_ok-push.ensures.items ∙ ap (λ l. l ++ to_z w128 (of_z w128 c.offset.result) ∷ [])
-    c.loop-arrival.invariant ∙ ap (λ reach. map (sink_reach tech) (take place arrivals) ++ reach ∷ [])
+    c.loop-arrival.invariant ∙ ap (λ reach. map (sink_reach tech) (take place arrivals) ++ reach ∷
+    [])
     (small_read _ below ∙ is) ∙ sym (map_more (sink_reach tech) arrivals place (pos 0)
     c.loop-arrival-test.true)

@@ -8,7 +8,8 @@ pub settled-requires : goal.settled-requires
 settled-requires c =
     let kept = c.in_ok-rounds.ensures.constraints_are ∙ c.as_slice.ensures in
     subst (λ them. CanRaise them c.args.gains c.raise.new.self.relaxation.values.items)
-    (sym (c.raise.ensures.same.constraints ∙ kept)) (CanRaise-raised (c.raise.ensures.raised _ _ kept
+    (sym (c.raise.ensures.same.constraints ∙ kept))
+    (CanRaise-raised (c.raise.ensures.raised _ _ kept
     (AreRaised-none _)) (rw c.in_ok-rounds.ensures.values (CanRaise-zero c.args.registers
     (record { small = c.requires.small; admitted = c.requires.admitted }))))
 

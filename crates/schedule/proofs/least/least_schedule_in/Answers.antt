@@ -21,7 +21,9 @@ settled-at-requires c =
 
 pub returns-clause-least : goal.returns-clause-least
 returns-clause-least c = least_at_period c.gains_of.ensures
-    c.args.constraints.now c.settled-at.result (rw (c.without_parents-relaxation.ensures.constraints_are, c.as_slice.ensures) at c.settled-at.ensures.least)
+    c.args.constraints.now c.settled-at.result
+    (rw (c.without_parents-relaxation.ensures.constraints_are, c.as_slice.ensures) at
+    c.settled-at.ensures.least)
 
 pub returns-clause-registers : goal.returns-clause-registers
 returns-clause-registers c = c.settled-at.ensures.registers
@@ -32,10 +34,14 @@ pub returns-clause-bound : goal.returns-clause-bound
 returns-clause-bound c = bound_at_period c.gains_of.ensures c.args.constraints.now
     c.settled-at.result (subst (λ n. AreSmallConstraints n c.args.constraints.now)
     (sym (returns-clause-registers c)) c.requires.small)
-    c.requires.period c.requires.admitted (rw (c.without_parents-relaxation.ensures.constraints_are, c.as_slice.ensures) at c.settled-at.ensures.least)
+    c.requires.period c.requires.admitted
+    (rw (c.without_parents-relaxation.ensures.constraints_are, c.as_slice.ensures) at
+    c.settled-at.ensures.least)
 
 pub returns-clause-small : goal.returns-clause-small
 returns-clause-small c = small_at_period c.gains_of.ensures c.args.constraints.now
     c.settled-at.result (subst (λ n. AreSmallConstraints n c.args.constraints.now)
     (sym (returns-clause-registers c)) c.requires.small)
-    c.requires.period c.requires.admitted (rw (c.without_parents-relaxation.ensures.constraints_are, c.as_slice.ensures) at c.settled-at.ensures.least)
+    c.requires.period c.requires.admitted
+    (rw (c.without_parents-relaxation.ensures.constraints_are, c.as_slice.ensures) at
+    c.settled-at.ensures.least)

@@ -10,7 +10,8 @@ satisfy-requires-clause-small c =
 
 pub returns-clause-least : goal.returns-clause-least
 returns-clause-least c =
-    subst (AreLeastArrivalsBy c.args.relaxation.constraints.now c.args.gains) (sym c.from_vec.ensures)
+    subst (AreLeastArrivalsBy c.args.relaxation.constraints.now c.args.gains)
+    (sym c.from_vec.ensures)
     (least_settled c.satisfy.ensures.raised c.satisfy.ensures.satisfied c.requires)
 
 pub returns-clause-small : goal.returns-clause-small

@@ -7,7 +7,8 @@ pub invariant_of-cycle-clause-within : goal.invariant_of-cycle-clause-within
 invariant_of-cycle-clause-within c =
     let places = c.go_round-start.new.places in
     let whole : (with_items c.args.self.search.places places).items ≡ places = with_items_is
-    c.args.self.search.places places (omega (arith, c.go_round-start.ensures.len, c.deref_mut.ensures.len)) in
+    c.args.self.search.places places
+    (omega (arith, c.go_round-start.ensures.len, c.deref_mut.ensures.len)) in
     subst (AreWithin c.args.self.search.constraints.now) (sym (c.split_at.ensures.back
     ∙ ap (λ (ps : List ℕ). drop c.go_round-start.result ps) (c.deref.ensures.value ∙ whole)))
     c.go_round-start.ensures.within
@@ -21,12 +22,14 @@ invariant_of-search-2-clause-shows c =
     let search = c.args.self.search in
     let places = c.go_round-start.new.places in
     let whole : (with_items c.args.self.search.places places).items ≡ places = with_items_is
-    c.args.self.search.places places (omega (arith, c.go_round-start.ensures.len, c.deref_mut.ensures.len)) in
+    c.args.self.search.places places
+    (omega (arith, c.go_round-start.ensures.len, c.deref_mut.ensures.len)) in
     let shows = ring_shows c.args.self.search c.go_round-start.result places c.split_at.result.1.now
     c.raise_by-search.result c.requires.at_shown (c.split_at.ensures.back
     ∙ ap (λ (ps : List ℕ). drop c.go_round-start.result ps) (c.deref.ensures.value ∙ whole))
     c.go_round-start.ensures.within c.go_round-start.ensures.cycle (c.go_round-start.ensures.gains
-    c.args.self.search.trial c.args.self.relaxation.values.items (rw c.as_slice-parents.ensures.value
+    c.args.self.search.trial c.args.self.relaxation.values.items
+    (rw c.as_slice-parents.ensures.value
     c.requires.far_up.are_parents)) c.raise_by-search.ensures in
     subst (λ ps. IsShown search.measure search.constraints.now search.first
     (drop c.go_round-start.result ps) c.raise_by-search.result) (sym whole) shows.0
@@ -35,11 +38,13 @@ pub returns-clause-less : goal.returns-clause-less
 returns-clause-less c =
     let places = c.go_round-start.new.places in
     let whole : (with_items c.args.self.search.places places).items ≡ places = with_items_is
-    c.args.self.search.places places (omega (arith, c.go_round-start.ensures.len, c.deref_mut.ensures.len)) in
+    c.args.self.search.places places
+    (omega (arith, c.go_round-start.ensures.len, c.deref_mut.ensures.len)) in
     let shows = ring_shows c.args.self.search c.go_round-start.result places c.split_at.result.1.now
     c.raise_by-search.result c.requires.at_shown (c.split_at.ensures.back
     ∙ ap (λ (ps : List ℕ). drop c.go_round-start.result ps) (c.deref.ensures.value ∙ whole))
     c.go_round-start.ensures.within c.go_round-start.ensures.cycle (c.go_round-start.ensures.gains
-    c.args.self.search.trial c.args.self.relaxation.values.items (rw c.as_slice-parents.ensures.value
+    c.args.self.search.trial c.args.self.relaxation.values.items
+    (rw c.as_slice-parents.ensures.value
     c.requires.far_up.are_parents)) c.raise_by-search.ensures in
     shows.1

@@ -11,7 +11,8 @@ relax-requires-clause-small c = small_now c.loop-turn.invariant
     (omega (arith, c.args.self.now.small.few)) c.requires
 
 pub loop-turn-preserved : goal.loop-turn-preserved
-loop-turn-preserved c = rw c.or-changed.ensures (IsUnderWay-more c.loop-turn.invariant c.relax.result c.place_at-place.ensures.place
+loop-turn-preserved c = rw c.or-changed.ensures
+    (IsUnderWay-more c.loop-turn.invariant c.relax.result c.place_at-place.ensures.place
     c.place_at-place.ensures.within c.relax.ensures)
 
 pub returns : goal.returns

@@ -8,7 +8,8 @@ read-requires g c = search (arith, some_words)
 pub returns-in-None-clause-ok : goal.returns-in-None-clause-ok
 returns-in-None-clause-ok g c =
     let (read, says) = line_says c.in_ok-words.ensures.ok.0 c.as_slice.ensures.value
-    c.in_ok-words.ensures.ok.2 c.of-scan.ensures c.in_ok-words.ensures.ok.1 c.in_ok-line.ensures.read
+    c.in_ok-words.ensures.ok.2 c.of-scan.ensures c.in_ok-words.ensures.ok.1
+    c.in_ok-line.ensures.read
     (c.in-None.ensures.judged c.args.rules.now.circuit.now) (c.in-None.ensures.sound refl) in
     record { words = map (λ word. word.now) c.as_slice.result.now; line = read; denoted = says }
 

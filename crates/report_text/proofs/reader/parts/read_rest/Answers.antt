@@ -26,7 +26,8 @@ pub returns-in_err-end-clause-fault : goal.returns-in_err-end-clause-fault
 returns-in_err-end-clause-fault c =
     passed_on _ _ _ c.from_residual-in_err-end.ensures.1 (λ named tech text heading
     same. after_fault heading tech (rw same at c.in_ok-shown.ensures.ok) _
-    (body_ends (rw (c.registers_of-count.ensures.value, same) at c.in_ok-body.ensures.ok) _ c.in_err-end.ensures.fault))
+    (body_ends (rw (c.registers_of-count.ensures.value, same) at c.in_ok-body.ensures.ok) _
+    c.in_err-end.ensures.fault))
 
 pub returns-clause-ok : goal.returns-clause-ok
 returns-clause-ok c tech text heading same =

@@ -3,5 +3,6 @@ use Rattle.report_text.proofs.scan.Scan.keyword.Goals as goal
 
 pub returns : goal.returns
 returns c circuit =
-    takes_text _ _ c.next-word.ensures.taken (c.read_keyword.ensures.flaw circuit) c.keep.ensures.kept
+    takes_text _ _ c.next-word.ensures.taken (c.read_keyword.ensures.flaw circuit)
+    c.keep.ensures.kept
     _ c.read_keyword.ensures.value

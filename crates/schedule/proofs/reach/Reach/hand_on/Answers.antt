@@ -7,7 +7,8 @@ loop-mark-init c =
     let tails = c.args.arrivals.now.linked in
     let register = c.args.register in
     IsHanding-none c.requires.reaching (subst (IsLastBefore c.args.arrivals.now.constraints.now
-    (length c.args.arrivals.now.constraints.now) register) (sym (get_or_read c.args.arrivals.now.tails.now.last.items register
+    (length c.args.arrivals.now.constraints.now) register)
+    (sym (get_or_read c.args.arrivals.now.tails.now.last.items register
     c.index-mark.result.now (omega (arith, tails.lasts, c.requires.within)) c.index-mark.ensures 0))
     (tails.last_is register c.requires.within))
 
@@ -23,8 +24,10 @@ loop-mark-smaller c =
     let place : ℕ = c.loop-mark.mark - 1 in
     let below : place < length c.args.arrivals.now.constraints.now =
     omega (arith, c.loop-mark.invariant.bound) in
-    let read = get_or_read c.args.arrivals.now.tails.now.before.items place c.index-mark-in-loop-mark.result.now
-    (omega (arith, below, c.args.arrivals.now.linked.befores)) c.index-mark-in-loop-mark.ensures 0 in
+    let read = get_or_read c.args.arrivals.now.tails.now.before.items place
+    c.index-mark-in-loop-mark.result.now
+    (omega (arith, below, c.args.arrivals.now.linked.befores)) c.index-mark-in-loop-mark.ensures 0
+    in
     omega (arith, read, (c.args.arrivals.now.linked.before_is place nowhere below).within)
 
 pub loop-mark-preserved : goal.loop-mark-preserved
@@ -32,8 +35,11 @@ loop-mark-preserved c =
     let place : ℕ = c.loop-mark.mark - 1 in
     let constraints = c.args.arrivals.now.constraints.now in
     let below : place < length constraints = omega (arith, c.loop-mark.invariant.bound) in
-    let read = get_or_read c.args.arrivals.now.tails.now.before.items place c.index-mark-in-loop-mark.result.now
-    (omega (arith, below, c.args.arrivals.now.linked.befores)) c.index-mark-in-loop-mark.ensures 0 in
+    let read = get_or_read c.args.arrivals.now.tails.now.before.items place
+    c.index-mark-in-loop-mark.result.now
+    (omega (arith, below, c.args.arrivals.now.linked.befores)) c.index-mark-in-loop-mark.ensures 0
+    in
     IsHanding-more c.loop-mark.invariant place (omega arith) c.in_ok-offer.ensures
     c.index-mark-in-loop-mark.result.now (subst (IsLastBefore constraints place (get_or
-    constraints place nowhere).tail) (sym read) (c.args.arrivals.now.linked.before_is place nowhere below))
+    constraints place nowhere).tail) (sym read)
+    (c.args.arrivals.now.linked.before_is place nowhere below))
