@@ -29,7 +29,7 @@ pub use Rattle.outcomes.specs.declared.margin.MarginOutcome.{MarginOutcome}
 pub use Rattle.report_text.proofs.LineLemmas.{more_lines}
 pub use Rattle.report_text.proofs.OneLine.{IsWord, IsLine, one_text}
 pub use Rattle.report_text.proofs.ReportWords.{report_lines_are, AreLines, appended, mapped, constraint_is, count_is, shown_are}
-pub use Rattle.report_text.specs.WireLines.{wire_line}
+pub use Rattle.report_text.specs.Values.{wire_line}
 pub use Rattle.answer_texts.specs.ArrivalTexts.{all_at_zero, CanPrint, arrival_line, arrival_lines}
 pub use Rattle.answer_texts.specs.CornerTexts.{numbered_line_at, numbered_lines, common_show_lines, corners_lines, corners_status, IsCornersText, numbered_line}
 pub use Rattle.answer_texts.specs.DemoTexts.{summary_lines, IsSummaryText, IsDemoText}

@@ -6,7 +6,7 @@ use Rattle.answer_texts.specs.Types.{Point, Sink, Uv, Problem, Schedule, Merge, 
 use Rattle.cts_model.specs.Vocabulary.{IsLeastWire, RealisesOffsets, embedding_of, total_wire, IsGreedy, IsLeastFraction, rotated, text_of, grid_of, on_grid, sinks_of, IsLeastSchedule}
 use Rattle.move_session.specs.declared.moves.Move.{Move}
 use Rattle.outcomes.specs.Syntheses.{IsPlacedTree}
-use Rattle.report_text.specs.WireLines.{wire_line}
+use Rattle.report_text.specs.Values.{wire_line}
 use Rattle.answer_texts.specs.SynthTexts.{IsFoundOrNever}
 
 -- so long is the tree of these merges over these sinks, each node at its chosen place with the

@@ -17,7 +17,7 @@ use Rattle.place_reader.specs.declared.fault.PlaceFault.TheVariants as place
 use Rattle.report_text.specs.declared.fault.ReportFault.TheVariants as report
 use Rattle.topology_file.specs.declared.fault.TopologyFault.{TopologyFault}
 use Rattle.topology_file.specs.declared.fault.TopologyFault.TheVariants as topology
-use Rattle.report_text.specs.Laws.{OneReport, OneFault, NoFaultOfReport}
+use Rattle.report_text.specs.ReportFaults.{OneReport, OneFault, NoFaultOfReport}
 use Rattle.cts_engine.proofs.OneProblem.{one_netlist, one_hosted, one_delays, same_problem}
 use Rattle.failure_lines.specs.declared.file_kind.FileKind.TheVariants as kinds
 

@@ -34,7 +34,7 @@ pub use Rattle.failure_lines.specs.declared.file_kind.FileKind.TheVariants.{Benc
 pub use Rattle.move_session.specs.Moves.{AcceptsMoves, moves_in}
 pub use Rattle.move_session.specs.declared.moves.Move.{Move}
 pub use Rattle.place_reader.specs.declared.fault.PlaceFault.{PlaceFault}
-pub use Rattle.report_text.specs.WireLines.{wire_line}
+pub use Rattle.report_text.specs.Values.{wire_line}
 pub use Rattle.report_text.specs.declared.fault.ReportFault.{ReportFault}
 pub use Rattle.cts_program.specs.Answers.{IsUnshown, RefusesTold, IsAnswer, IsRefusal, kinds_for, texts_for, judged_kinds, Tells, IsText, IsAccepted, IsStatusOf, FindsNoPeriod, number_given, value_given, AdmitsNone, kinds_in, JoinTooMany}
 pub use Rattle.cts_program.specs.Documents.{IsAcceptedAs, IsRefusedAs, Tell, RefusesFirst, Refuses, DiffersFromFirst, Means}

@@ -3,7 +3,7 @@ use Rattle.std.specs.Prelude.{◌≡◌, ◌<◌, ℕ, ℤ, List, ◌++◌}
 use Rattle.cts_model.specs.Vocabulary.{IsPointBelow, line_of}
 use Rattle.move_session.specs.declared.moves.Move.{Move}
 use Rattle.move_session.specs.Sessions.{SessionState}
-use Rattle.report_text.specs.WireLines.{wire_line}
+use Rattle.report_text.specs.Values.{wire_line}
 use Rattle.answer_texts.specs.MoveTexts.{IsTreeWire}
 
 -- the move is of a register, to a place at most 1,000,000,000 length units from the origin along

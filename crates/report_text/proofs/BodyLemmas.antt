@@ -1,5 +1,5 @@
 -- The first lines of a report, what shows its period, and the sections after it.
-use Rattle.report_text.proofs.Vocabulary.{◌≡◌, ℕ, Option, Some, List, [], ◌∷◌, codes, map, refl, ap, ◌∙◌, subst, arith, append_assoc, ◌≤◌, ◌+◌, ◌-◌, ◌*◌, ◌++◌, append-nil, range_with_len, Circuit, Constraint, Cycle, Version, First, Second, Words, count_line, line_for, Lead, ReportFault, Form, Scale, Fraction, HasHeading, HasShown, IsSmallCount, HasPathed, HasRows, Counted, IsFlawless, DenotesConstraint, DenotesPeriod, DenotesLead, Left, Reads, ReadsLine, Stops, DenotesLine, DenotesTimed, Timed, HasBody, forms_after, HasFirstFault, version_line, shown_line}
+use Rattle.report_text.proofs.Vocabulary.{period_line, IsSmallPeriod, ◌≡◌, ℕ, Option, Some, List, [], ◌∷◌, codes, map, refl, ap, ◌∙◌, subst, arith, append_assoc, ◌≤◌, ◌+◌, ◌-◌, ◌*◌, ◌++◌, append-nil, range_with_len, Circuit, Constraint, Cycle, Version, First, Second, Words, count_line, line_for, Lead, ReportFault, Form, Scale, Fraction, HasHeading, HasShown, IsSmallCount, HasPathed, HasRows, Counted, IsFlawless, DenotesConstraint, DenotesLead, Left, Reads, ReadsLine, Stops, DenotesLine, DenotesTimed, Timed, HasBody, forms_after, HasFirstFault, version_line, shown_line}
 use Rattle.report_text.specs.LineForms as form
 use Rattle.report_text.specs.declared.sections.Body.{Body}
 use Rattle.report_text.proofs.RowLemmas.{one_form, rows_number, plain_lines, rows_all, rows_lines, counted_number, counted_read}
@@ -17,7 +17,8 @@ pub heading_read : (circuit : Circuit) (scale : Scale)
     (old first second new : Left) (version : Version) (period : Fraction) (count : Option ℕ)
     → DenotesLine circuit scale form.Version (λ words version. words ≡ version_line version) old
     first version
-    → DenotesLine circuit scale form.Period DenotesPeriod first second period
+    → DenotesLine circuit scale form.Period
+    (λ words period. (words ≡ period_line period) × IsSmallPeriod period) first second period
     → DenotesLine circuit scale form.Show
     (λ words count. (words ≡ shown_line count) × IsSmallCount count) second new count →
     HasHeading circuit old new
@@ -26,9 +27,9 @@ heading_read circuit scale old first second new version period count is_version 
     record {
       lines = λ other. read_more (read_as _ _ _ _ _ _ old _ is_version.line is_version.line.flawless
           is_version.denoted) _ _ new (read_more (read_as _ _ _ _ _ _ _ _ is_period.line
-          is_period.line.flawless is_period.denoted.line) _ _ new (read_as _ _ _ _ _ _ _ new
+          is_period.line.flawless is_period.denoted.0) _ _ new (read_as _ _ _ _ _ _ _ new
           is_show.line is_show.line.flawless is_show.denoted.0));
-      small = is_period.denoted.small;
+      small = is_period.denoted.1;
       count = is_show.denoted.1;
     }
 

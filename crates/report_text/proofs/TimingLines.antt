@@ -1,6 +1,6 @@
 -- A line of the timing without a flaw is that of a value, and the line of a value within the bounds
 -- has no flaw.
-use Rattle.report_text.proofs.Vocabulary.{if◌then◌else◌, ℤ, ◌≡◌, ◌<◌, ◌≤◌, ◌-◌, ◌^◌, ℕ, zero, suc, pos, Bool, true, false, cond, List, [], ◌∷◌, All, map, replicate, length, Option, Some, None, codes, refl, sym, ap, ◌∙◌, subst, arith, false_from_ne_true, ints, length-map, All-cons, All-nil, bytes_eq-Decides, signed_decimal, AllByRecursion, bytes_eq, Fraction, few_digits, no_fraction_minus, one_number_text, Circuit, Constraint, Version, First, Second, Lead, Zero, Tight, IsBelow, Words, constraint_line, count_line, line_for, period_line, register_line, IsBetweenRegisters, HasSmallWeight, LeadsAmong, IsSmallLead, lead_line, path_line, signal_name, version_line, IsSmallPeriod, AreSmallSlacks, Field, Scale, Timed, LineHasFlaw, constraint_fields, is_word, register_fields, IsSmallCount, shown_line, IsFlawless, DenotesConstraint, DenotesLead, DenotesPath, DenotesPeriod, IsSmallScale, DenotesTimed}
+use Rattle.report_text.proofs.Vocabulary.{fields_of, if◌then◌else◌, ℤ, ◌≡◌, ◌<◌, ◌≤◌, ◌-◌, ◌^◌, ℕ, zero, suc, pos, Bool, true, false, cond, List, [], ◌∷◌, All, map, replicate, length, Option, Some, None, codes, refl, sym, ap, ◌∙◌, subst, arith, false_from_ne_true, ints, length-map, All-cons, All-nil, bytes_eq-Decides, signed_decimal, AllByRecursion, bytes_eq, Fraction, few_digits, no_fraction_minus, one_number_text, Circuit, Constraint, Version, First, Second, Lead, Zero, Tight, IsBelow, Words, constraint_line, count_line, line_for, period_line, register_line, IsBetweenRegisters, HasSmallWeight, LeadsAmong, IsSmallLead, lead_line, path_line, signal_name, version_line, IsSmallPeriod, AreSmallSlacks, Field, Scale, Timed, LineHasFlaw, constraint_fields, is_word, IsSmallCount, shown_line, IsFlawless, DenotesConstraint, DenotesLead, DenotesPath, IsSmallScale, DenotesTimed}
 use Rattle.std.proofs.lemmas.Fmt.{decimal_digit}
 use Rattle.report_text.specs.LineFields as field
 use Rattle.report_text.specs.LineForms as form
@@ -30,10 +30,10 @@ module _ (circuit : Circuit) (scale : Scale) where
   version_plain Second = search (arith, values_plain)
 
   pub period_found : (words : Words) → IsFlawless circuit scale form.Period words
-      → (period : Fraction) × DenotesPeriod words period
+      → (period : Fraction) × ((words ≡ period_line period) × IsSmallPeriod period)
   period_found words flawless =
       let line = line_spelled circuit period_fields words (tt, (tt, tt)) flawless in
-      (line.values.1.0, record { line = line.are; small = line.admitted.1.0 })
+      (line.values.1.0, (line.are, line.admitted.1.0))
 
   pub period_plain : (period : Fraction) → IsSmallPeriod period
       → IsFlawless circuit scale form.Period (period_line period)
@@ -183,16 +183,16 @@ lead_plain circuit scale (Tight depth constraint) among (some, few, weight) =
 
 -- ---- a register
 
-small_register : (scale : Scale) (register : ℕ) → IsSmallScale scale
-    → AllByRecursion IsSmallField (register_fields scale register)
-small_register scale register small = search (arith, IsSmallField)
+small_register : (circuit : Circuit) (scale : Scale) (register : ℕ) → IsSmallScale scale
+    → AllByRecursion IsSmallField (fields_of circuit scale (form.Register register) [])
+small_register circuit scale register small = search (arith, IsSmallField)
 
 pub timed_found : (circuit : Circuit) (scale : Scale) (register : ℕ) (words : Words)
     → IsSmallScale scale → IsFlawless circuit scale (form.Register register) words
     → (timed : Timed) × DenotesTimed circuit scale register words timed
 timed_found circuit scale register words small flawless =
-    let line = line_spelled circuit (register_fields scale register) words
-    (small_register scale register small) flawless in
+    let line = line_spelled circuit (fields_of circuit scale (form.Register register) []) words
+    (small_register circuit scale register small) flawless in
     let (arrival, (setup, (hold, _))) = line.values.1 in
     let (below, (setup_small, (hold_small, _))) = line.admitted.1 in (
       record { arrival = arrival; slack = record { setup = setup; hold = hold } },
@@ -208,7 +208,8 @@ pub register_plain : (circuit : Circuit) (scale : Scale) (register : ℕ) (timed
     → AreSmallSlacks scale.den timed.slack → IsFlawless circuit scale (form.Register register)
     (register_line circuit scale.den register timed.arrival timed.slack)
 register_plain circuit scale register timed small among below slacks =
-    values_plain circuit (register_fields scale register) _ (small_register _ register small)
+    values_plain circuit (fields_of circuit scale (form.Register register) []) _
+    (small_register circuit _ register small)
     ((register, among, refl), (below, (slacks.setup, (slacks.hold, tt))))
 
 -- ---- a path

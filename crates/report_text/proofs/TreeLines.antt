@@ -1,6 +1,6 @@
 -- A line of the tree without a flaw is that of a value, and the line of a value within the bounds
 -- has no flaw.
-use Rattle.report_text.proofs.Vocabulary.{◌≡◌, ◌<◌, ◌≤◌, ◌+◌, ◌*◌, ◌-◌, ◌^◌, ◌++◌, nat_le, suc, zero, replicate, take, All, Bool, if◌then◌else◌, ℕ, ℤ, pos, List, [], ◌∷◌, get_or, length, None, true, false, refl, sym, ap, ◌∙◌, subst, codes, arith, le-leb, leb-true, Decides-eqb, drop_at, length-append, length-replicate, length-take, take_at, All-cons, All-nil, All-replicate, signed_decimal, AllByRecursion, flat_map, quotient_text, Circuit, Point, Show, Pair, Sink, Root, register_name, IsBelow, IsPointBelow, Words, IsMergeShow, IsSourceShow, ShowsAmong, origin, Field, Scale, MergeLine, NodeLine, SourceLine, LineHasFlaw, has_points, is_word, length_field, merge_fields, node_fields, pointed_fields, points_of, total_fields, IsFlawless, IsSmallScale, SaysMerge, SaysNode, SaysSource, coordinates, merged_line, sourced_line, wire_line}
+use Rattle.report_text.proofs.Vocabulary.{fields_of, ◌≡◌, ◌<◌, ◌≤◌, ◌+◌, ◌*◌, ◌-◌, ◌^◌, ◌++◌, nat_le, suc, zero, replicate, take, All, Bool, if◌then◌else◌, ℕ, ℤ, pos, List, [], ◌∷◌, get_or, length, None, true, false, refl, sym, ap, ◌∙◌, subst, codes, arith, le-leb, leb-true, Decides-eqb, drop_at, length-append, length-replicate, length-take, take_at, All-cons, All-nil, All-replicate, signed_decimal, AllByRecursion, flat_map, quotient_text, Circuit, Point, Show, Pair, Sink, Root, register_name, IsBelow, IsPointBelow, Words, IsMergeShow, IsSourceShow, ShowsAmong, origin, Field, Scale, MergeLine, NodeLine, SourceLine, LineHasFlaw, has_points, is_word, length_field, node_fields, points_of, IsFlawless, IsSmallScale, SaysMerge, SaysNode, SaysSource, coordinates, merged_line, sourced_line, wire_line}
 use Rattle.report_text.specs.LineFields as field
 use Rattle.report_text.specs.LineForms as form
 use Rattle.report_text.proofs.WordBytes.{both}
@@ -17,7 +17,7 @@ pub total_found : (circuit : Circuit) (scale : Scale) (words : Words) → IsSmal
     → IsFlawless circuit scale form.Total words → (total : ℤ)
     × ((words ≡ wire_line scale.grid total) × IsBelow (10 ^ 36) total)
 total_found circuit scale words small flawless =
-    let line = line_spelled circuit (total_fields scale) words
+    let line = line_spelled circuit (fields_of circuit scale form.Total words) words
     (tt, ((small.some_grid, small.small_grid, omega arith), tt)) flawless in
     (line.values.1.0, (line.are, line.admitted.1.0))
 
@@ -25,20 +25,20 @@ pub total_plain : (circuit : Circuit) (scale : Scale) (total : ℤ) → IsSmallS
     → IsBelow (10 ^ 36) total
     → IsFlawless circuit scale form.Total (codes "wire" ∷ quotient_text total scale.grid ∷ [])
 total_plain circuit scale total small below =
-    values_plain circuit (total_fields scale) (tt, (total, tt))
+    values_plain circuit (fields_of circuit scale form.Total []) (tt, (total, tt))
     (tt, ((small.some_grid, small.small_grid, omega arith), tt)) (tt, (below, tt))
 
 -- ---- a merge
 
 small_merge : (circuit : Circuit) (scale : Scale) (node : ℕ) (words : Words) → IsSmallScale scale
-    → node < 2 ^ 32 → AllByRecursion IsSmallField (merge_fields circuit scale node words)
+    → node < 2 ^ 32 → AllByRecursion IsSmallField (fields_of circuit scale (form.Merge node) words)
 small_merge circuit scale node words small below = search (arith, small_length)
 
 pub merge_found : (circuit : Circuit) (scale : Scale) (node : ℕ) (words : Words)
     → IsSmallScale scale → node < 2 ^ 32 → IsFlawless circuit scale (form.Merge node) words
     → (line : MergeLine) × SaysMerge circuit scale.grid node words line
 merge_found circuit scale node words small below flawless =
-    let line = line_spelled circuit (merge_fields circuit scale node words) words
+    let line = line_spelled circuit (fields_of circuit scale (form.Merge node) words) words
     (small_merge circuit scale node words small below) flawless in
     let (_, (first, (second, (reach, (_, (left, (right, _))))))) = line.values in
     let (_, (few, (few', (reach_below, (_, (within, ((from, within'), _))))))) = line.admitted in
@@ -72,7 +72,7 @@ merge_plain circuit scale node words line small below says =
         let words : Words = merged_line circuit scale.grid node
         (record { merge = line.merge; reach = line.reach; show = Pair left right }) in
         let named = named_register circuit (register_name circuit left) left within refl in
-        values_plain circuit (merge_fields circuit scale node words)
+        values_plain circuit (fields_of circuit scale (form.Merge node) words)
         (tt, (line.merge.first, (line.merge.second, (line.reach, (tt, (left, (right, tt)))))))
         (small_merge circuit scale node words small below)
         (search (arith, says.merge.first, says.merge.second, says.reach, named, order))
@@ -258,16 +258,16 @@ node_found circuit scale node words small below some flawless =
     at false is flawless = absurd (none words some flawless)
 
 -- so many words are those of a node
-pub points_are : (scale : Scale) (node : ℕ) (words : Words) (points : ℕ)
+pub points_are : (circuit : Circuit) (scale : Scale) (node : ℕ) (words : Words) (points : ℕ)
     → length words ≡ 5 + 2 * points → 1 ≤ points → points ≤ 5
-    → pointed_fields scale node words ≡ node_fields scale node points
-points_are scale node words points all some few = search (arith, Decides-eqb, le-leb)
+    → fields_of circuit scale (form.Node node) words ≡ node_fields scale node points
+points_are circuit scale node words points all some few = search (arith, Decides-eqb, le-leb)
 
 -- and so many are those of none
-pub no_points : (scale : Scale) (node : ℕ) (words : Words)
+pub no_points : (circuit : Circuit) (scale : Scale) (node : ℕ) (words : Words)
     → ((points : ℕ) → 1 ≤ points → points ≤ 5 → ¬ (length words ≡ 5 + 2 * points))
-    → pointed_fields scale node words ≡ []
-no_points scale node words none = at (has_points words) refl
+    → fields_of circuit scale (form.Node node) words ≡ []
+no_points circuit scale node words none = at (has_points words) refl
   where
     at : (has : Bool) → has_points words ≡ has
         → (if has then node_fields scale node (points_of words) else []) ≡ []
@@ -287,7 +287,7 @@ node_plain circuit scale node words line small below says =
     omega (arith, length-take points line.wire.corners, wire.padded.all, wire.few) in
     let all : length words ≡ 5 + 2 * points =
     ap length says.words_are ∙ omega (arith, many, length-points scale.grid corners) in
-    let fields_are = points_are scale node words points all wire.some wire.few in
+    let fields_are = points_are circuit scale node words points all wire.some wire.few in
     let drawn = subst (λ n. Tells circuit (replicate (2 * n) (length_field scale))
     (flat_map (coordinates scale.grid) corners)) many (points_told circuit scale _ wire.each) in
     subst (λ (fields : List Field). LineHasFlaw circuit fields words None) (sym fields_are)

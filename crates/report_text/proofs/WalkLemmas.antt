@@ -1,6 +1,6 @@
 -- Lines that are taken from a text one after the other, the first flaw of a line, and the first
 -- fault of a text.
-use Rattle.report_text.proofs.Vocabulary.{◌≡◌, ◌↔◌, ℕ, List, ◌∷◌, Option, Some, None, refl, zero, suc, ◌<◌, ◌+◌, ◌-◌, ◌==◌, Bool, true, false, Result, Ok, Err, IfErr, IsErrAnd, [], ◌++◌, map, length, take, drop, get_or, MatchBool, MatchOption, sym, ap, ap₂, subst, ◌∙◌, append_assoc, append-nil, arith, drop-cons, nat_lt, length-append, lt-ltb, eq-eqb, ne_eqb, slice_split, position, position_or_len, join_with_byte, nat_tests, flat_map-append, take-append-drop, drop-drop, take_at, join_with_byte-slice_split, length-slice_split, slice_split_first, passes_at_first, Circuit, Words, line_of, Field, Flaw, Unknown, Unfit, Large, EachWord, IsFirstFlaw, IsFit, IsFormed, IsKnown, IsWithin, LineHasFlaw, WordHasFlaw, sooner_flaw, ReportFault, BadLine, Missing, Form, Scale, fields_of, HasFirstFault, is_line_feed, is_space, words_of, fault_of, IsFlawless, Left, TakesLine, Reads, ReadsLine, Stops, StopsLine, none-some, same_Some}
+use Rattle.report_text.proofs.Vocabulary.{◌≡◌, ◌↔◌, ℕ, List, ◌∷◌, Option, Some, None, refl, zero, suc, ◌<◌, ◌+◌, ◌-◌, ◌==◌, Bool, true, false, Result, Ok, Err, IfErr, IsErrAnd, [], ◌++◌, map, length, take, drop, get_or, MatchBool, MatchOption, sym, ap, ap₂, subst, ◌∙◌, append_assoc, append-nil, arith, drop-cons, nat_lt, length-append, lt-ltb, eq-eqb, ne_eqb, slice_split, position, position_or_len, join_with_byte, nat_tests, flat_map-append, take-append-drop, drop-drop, take_at, join_with_byte-slice_split, length-slice_split, slice_split_first, passes_at_first, Circuit, Words, line_of, Field, Flaw, Unknown, Unfit, Large, EachWord, IsFirstFlaw, IsFit, IsFormed, IsKnown, IsWithin, LineHasFlaw, WordHasFlaw, sooner_flaw, ReportFault, BadLine, Missing, Form, Scale, fields_of, HasFirstFault, is_line_feed, words_of, fault_of, IsFlawless, Left, TakesLine, Reads, ReadsLine, Stops, StopsLine, none-some, same_Some}
 use Rattle.report_text.specs.declared.field.Flaw.TheVariants.{Form as Malformed}
 use Rattle.report_text.proofs.OneLine.{IsLine, Lacks, words_cut, words_lack}
 
@@ -105,7 +105,7 @@ module _ {old new : Left} {line : List ℕ} (taken : TakesLine old line new) whe
       ∙ ap (λ bytes. bytes ++ 10 ∷ []) (join_with_byte-slice_split 32 line) in
       record {
         some = subst (λ ws. 0 < length ws) (sym words_are)
-            (omega (arith, length-slice_split is_space line));
+            (omega (arith, length-slice_split (λ byte. byte == 32) line));
         flawless = flawless;
         read = λ other flawless'. record {
           text =

@@ -30,28 +30,6 @@ slack_field scale = field.Slack scale.den (pos (10 ^ 20))
 abbrev pub constraint_fields : List field.Field
 constraint_fields = field.Kind ∷ field.Register ∷ field.Register ∷ field.Weight ∷ []
 
--- a path has as many signals as it says, or isn't printed
-abbrev pub path_fields : List (List ℕ) → List field.Field
-path_fields words = if is_word words 1 (codes "-")
-    then field.Word (codes "path") ∷ field.Word (codes "-") ∷ []
-    else field.Word (codes "path") ∷ field.Counted (length words - 2) 65536
-    ∷ replicate (length words - 2) field.Signal
-
-abbrev pub lead_fields : List (List ℕ) → List field.Field
-lead_fields words = if is_word words 1 (codes "0")
-    then field.Word (codes "lead") ∷ field.Word (codes "0") ∷ []
-    else field.Word (codes "lead") ∷ field.Number 1 9999 ∷ constraint_fields
-
-abbrev pub merge_fields : Circuit → Scale → (node : ℕ) → List (List ℕ) → List field.Field
-merge_fields circuit scale node words = field.Exactly node ∷ field.Number 0 9999
-    ∷ field.Number 0 9999 ∷ length_field scale ∷ field.Word (codes "pair") ∷ field.Register
-    ∷ field.From (register_named circuit (get_or words 5 [])) ∷ []
-
-abbrev pub source_fields : Scale → List (List ℕ) → List field.Field
-source_fields scale words = field.Word (codes "source") ∷ length_field scale
-    ∷ (if is_word words 2 (codes "root")
-    then field.Word (codes "root") ∷ [] else field.Word (codes "sink") ∷ field.Register ∷ [])
-
 -- a node's place, the length of its edge, and 1 to 5 points, by the number of words
 abbrev pub node_fields : Scale → (node points : ℕ) → List field.Field
 node_fields scale node points = field.Exactly node ∷ length_field scale ∷ length_field scale
@@ -64,37 +42,34 @@ abbrev pub has_points : List (List ℕ) → Bool
 has_points words = (length words == 5 + 2 * points_of words)
     && (nat_le 1 (points_of words) && nat_le (points_of words) 5)
 
--- what shows the period: the floor, or how many constraints the cycle has
-abbrev pub show_fields : List (List ℕ) → List field.Field
-show_fields words = if is_word words 0 (codes "floor")
-    then field.Word (codes "floor") ∷ [] else field.Word (codes "cycle") ∷ field.Number 1 9999 ∷ []
-
-abbrev pub register_fields : Scale → (register : ℕ) → List field.Field
-register_fields scale register = field.Named register
-    ∷ field.Steps scale.den (pos (10 ^ 19)) ∷ slack_field scale ∷ slack_field scale ∷ []
-
--- none where there is a number of words that no node has
-abbrev pub pointed_fields : Scale → (node : ℕ) → List (List ℕ) → List field.Field
-pointed_fields scale node words =
-    if has_points words then node_fields scale node (points_of words) else []
-
-abbrev pub total_fields : Scale → List field.Field
-total_fields scale = field.Word (codes "wire") ∷ field.Steps scale.grid (pos (10 ^ 36)) ∷ []
-
--- the fields of a line of that form
+-- the fields of a line of that form: a cycle says how many constraints it has, a path how many
+-- signals, where it is printed; there are none for a number of words that no node has
 abbrev pub fields_of : Circuit → Scale → Form → List (List ℕ) → List field.Field
 fields_of circuit scale form.Version words = field.Word (codes "cts") ∷ field.Version ∷ []
 fields_of circuit scale form.Period words = field.Word (codes "period") ∷ field.Period ∷ []
-fields_of circuit scale form.Show words = show_fields words
+fields_of circuit scale form.Show words = if is_word words 0 (codes "floor")
+    then field.Word (codes "floor") ∷ [] else field.Word (codes "cycle") ∷ field.Number 1 9999 ∷ []
 fields_of circuit scale form.Constraint words = constraint_fields
-fields_of circuit scale form.Path words = path_fields words
+fields_of circuit scale form.Path words = if is_word words 1 (codes "-")
+    then field.Word (codes "path") ∷ field.Word (codes "-") ∷ []
+    else field.Word (codes "path") ∷ field.Counted (length words - 2) 65536
+    ∷ replicate (length words - 2) field.Signal
 fields_of circuit scale (form.Count word count) words = field.Word word ∷ field.Exactly count ∷ []
-fields_of circuit scale (form.Register register) words = register_fields scale register
-fields_of circuit scale form.Lead words = lead_fields words
-fields_of circuit scale (form.Merge node) words = merge_fields circuit scale node words
-fields_of circuit scale form.Source words = source_fields scale words
-fields_of circuit scale (form.Node node) words = pointed_fields scale node words
-fields_of circuit scale form.Total words = total_fields scale
+fields_of circuit scale (form.Register register) words = field.Named register
+    ∷ field.Steps scale.den (pos (10 ^ 19)) ∷ slack_field scale ∷ slack_field scale ∷ []
+fields_of circuit scale form.Lead words = if is_word words 1 (codes "0")
+    then field.Word (codes "lead") ∷ field.Word (codes "0") ∷ []
+    else field.Word (codes "lead") ∷ field.Number 1 9999 ∷ constraint_fields
+fields_of circuit scale (form.Merge node) words = field.Exactly node ∷ field.Number 0 9999
+    ∷ field.Number 0 9999 ∷ length_field scale ∷ field.Word (codes "pair") ∷ field.Register
+    ∷ field.From (register_named circuit (get_or words 5 [])) ∷ []
+fields_of circuit scale form.Source words = field.Word (codes "source") ∷ length_field scale
+    ∷ (if is_word words 2 (codes "root")
+    then field.Word (codes "root") ∷ [] else field.Word (codes "sink") ∷ field.Register ∷ [])
+fields_of circuit scale (form.Node node) words =
+    if has_points words then node_fields scale node (points_of words) else []
+fields_of circuit scale form.Total words =
+    field.Word (codes "wire") ∷ field.Steps scale.grid (pos (10 ^ 36)) ∷ []
 
 -- each constraint of a cycle, in the second version with its path
 abbrev pub cycle_forms : Version → (count : ℕ) → List Form

@@ -1,13 +1,10 @@
 pub mod Common
-pub mod Laws
 pub mod LineFields
 pub mod LineForms
 pub mod Forms
 pub mod Fields
 pub mod ReportFaults
-pub mod WireLines
 pub mod Values
-pub mod Scans
 pub mod Walks
 pub mod Parts
 pub mod Vocabulary

@@ -3,8 +3,7 @@ use Rattle.std.specs.Prelude.{All, List, Option, [], drop, length, map, neg_ℤ,
 use Rattle.report_text.specs.Common.{Fraction, Circuit, Point, Report, Version, Tech, Wire, count_in, HasSmallWeights, ShowsPeriodAmong, cycle_length, no_wire, origin, period_show_lines, version_line, period_line, IsSmallPeriod, grid_of, scheduled_length, Scale, Body, Heading, Parts, Shown, IsBelow}
 use Rattle.report_text.specs.LineForms as form
 use Rattle.report_text.specs.Forms.{cycle_forms}
-use Rattle.report_text.specs.Values.{IsSmallCount, shown_line, DenotesLead, DenotesTimed, SaysMerge, SaysNode, SaysSource}
-use Rattle.report_text.specs.WireLines.{wire_line}
+use Rattle.report_text.specs.Values.{IsSmallCount, shown_line, DenotesLead, DenotesTimed, SaysMerge, SaysNode, SaysSource, wire_line}
 use Rattle.report_text.specs.Walks.{Left, Reads, DenotesLine, Counted, HasRows}
 
 -- the first three lines, which are read by any scale

@@ -1,18 +1,15 @@
--- What is wrong with a text that spells no report: its lines are judged in order, each by the form
--- that is due. The order and the faults are this project's choice.
-use Rattle.std.specs.Prelude.{◌≡◌, ◌+◌, Bool, ◌==◌, ◌^◌, ℕ, ℤ, pos, ◌*ℤ◌, ◌∷◌, [], List, Option, Some, None, length, take, drop, get_or, if◌then◌else◌, codes, MatchBool, MatchOption, position}
-use Rattle.report_text.specs.Common.{is_line_feed, after_first, slice_split, list_any, bytes_eq, digits_value, is_slash, Circuit, Version, Tech, ReportFault, BadLine, UnknownRegister, Missing, Extra, TooLarge, UnknownSignal, Flaw, Scale, First, Second}
+-- What is wrong with a text that spells no report, and what holds of every text: its lines are judged
+-- in order, each by the form that is due. The order and the faults are this project's choice.
+use Rattle.std.specs.Prelude.{◌≡◌, ◌⊎◌, ◌+◌, Bool, ◌==◌, ◌^◌, ℕ, ℤ, pos, ◌*ℤ◌, ◌∷◌, [], List, Option, Some, None, length, take, drop, get_or, if◌then◌else◌, codes, MatchBool, MatchOption, position}
+use Rattle.report_text.specs.Common.{Report, Spells, is_line_feed, after_first, slice_split, list_any, bytes_eq, digits_value, is_slash, Circuit, Version, Tech, ReportFault, BadLine, UnknownRegister, Missing, Extra, TooLarge, UnknownSignal, Flaw, Scale, First, Second}
 use Rattle.report_text.specs.LineForms as form
 use Rattle.report_text.specs.declared.field.Flaw.TheVariants.{Unknown, Large}
 use Rattle.report_text.specs.Fields.{LineHasFlaw}
 use Rattle.report_text.specs.Forms.{fields_of, forms_of, is_word}
 
-abbrev pub is_space : ℕ → Bool
-is_space byte = byte == 32
-
 -- the words of a line: it is cut at each space, so a word may have no bytes
 abbrev pub words_of : List ℕ → List (List ℕ)
-words_of line = slice_split is_space line
+words_of line = slice_split (λ byte. byte == 32) line
 
 -- the fault that a line has with a flaw
 abbrev pub unknown_on : form.Form → (line : ℕ) → ReportFault
@@ -68,3 +65,29 @@ cycle_denoted text = if is_word (word_at text 2 0 ∷ []) 0 (codes "floor")
 abbrev pub HasFault : Circuit → Tech → List ℕ → Option ReportFault → Type 0
 HasFault circuit tech text fault = HasFirstFault circuit (scale_denoted tech text)
     (forms_of (version_denoted text) (cycle_denoted text) (length circuit.registers)) 1 text fault
+
+-- a text spells at most one report, over one circuit and for one table
+abbrev pub OneReport : Type 0
+OneReport = (circuit : Circuit) (tech : Tech) (text : List ℕ) (report other : Report)
+    → Spells circuit tech text report → Spells circuit tech text other → report ≡ other
+
+-- as a report a text has one fault at the most
+abbrev pub OneFault : Type 0
+OneFault = (circuit : Circuit) (tech : Tech) (text : List ℕ) (fault other : Option ReportFault)
+    → HasFault circuit tech text fault → HasFault circuit tech text other → fault ≡ other
+
+-- and none where it spells one
+abbrev pub NoFaultOfReport : Type 0
+NoFaultOfReport = (circuit : Circuit) (tech : Tech) (text : List ℕ) (report : Report)
+    → Spells circuit tech text report → HasFault circuit tech text None
+
+-- where it has none, it spells one
+abbrev pub ReportOfNoFault : Type 0
+ReportOfNoFault = (circuit : Circuit) (tech : Tech) (text : List ℕ)
+    → HasFault circuit tech text None → (report : Report) × Spells circuit tech text report
+
+-- the text has a fault, or it spells a report
+abbrev pub HasFaultOrReport : Circuit → Tech → List ℕ → Type 0
+HasFaultOrReport circuit tech text =
+    ((fault : ReportFault) × HasFault circuit tech text (Some fault))
+    ⊎ ((report : Report) × Spells circuit tech text report)

@@ -16,10 +16,6 @@ pub record HasSmallLengths (report : Report) : Type 0 where
   pub wires : All IsSmallWire report.wires
   pub total : IsBelow (10 ^ 36) report.total
 
-pub record DenotesPeriod (words : Words) (period : Fraction) : Type 0 where
-  pub line : words ≡ period_line period
-  pub small : IsSmallPeriod period
-
 -- the line for what shows the period: how many constraints the cycle has, or the floor
 abbrev pub shown_line : Option ℕ → Words
 shown_line None = floor_line
@@ -104,3 +100,7 @@ pub record SaysNode (grid : ℤ) (node : ℕ) (words : Words) (line : NodeLine) 
   pub place : IsPointBelow (10 ^ 32) line.place
   pub edge : IsBelow (10 ^ 32) line.length
   pub wire : IsSmallWire line.wire
+
+-- so many grid steps of wire in length units, each of which has as many as `grid` says
+abbrev pub wire_line : (grid steps : ℤ) → Words
+wire_line grid steps = codes "wire" ∷ quotient_text steps grid ∷ []

@@ -1,6 +1,7 @@
 //! What the texts of reports keep: a function's clauses are laws, and its body is empty.
 
-ghost use Rattle.report_text.specs.Vocabulary.{OneReport, OneFault, NoFaultOfReport, ReportOfNoFault, FaultOrReport};
+ghost use Rattle.std.specs.Prelude.{ℕ, List};
+ghost use Rattle.report_text.specs.Vocabulary.{Circuit, Tech, OneReport, OneFault, NoFaultOfReport, ReportOfNoFault, HasFaultOrReport};
 
 /// A text spells at most one report.
 pub fn one_report()
@@ -12,5 +13,6 @@ pub fn faults()
     ensures one { OneFault }
     ensures none { NoFaultOfReport }
     ensures report { ReportOfNoFault }
-    ensures either { FaultOrReport }
+    ensures either { (circuit : Circuit) (tech : Tech) (text : List ℕ)
+        → HasFaultOrReport circuit tech text }
 {}

@@ -1,7 +1,7 @@
 //! What the lines of a report's timing say.
 
 ghost use Rattle.std.specs.Prelude.{◌≡◌, ◌<◌, IfOk, All, length, map, replicate, if◌then◌else◌};
-ghost use Rattle.report_text.specs.Vocabulary.{IsBetweenRegisters, HasSmallWeight, signal_name, line_for, constraint_fields, ReadsForm, Takes, DenotesPeriod, DenotesConstraint, DenotesPath, DenotesLead, DenotesTimed, version_line, shown_line, IsSmallCount};
+ghost use Rattle.report_text.specs.Vocabulary.{IsBetweenRegisters, HasSmallWeight, signal_name, line_for, constraint_fields, ReadsForm, Takes, period_line, IsSmallPeriod, DenotesConstraint, DenotesPath, DenotesLead, DenotesTimed, version_line, shown_line, IsSmallCount};
 ghost use Rattle.report_text.specs.LineFields as field;
 ghost use Rattle.report_text.specs.LineForms as form;
 
@@ -26,7 +26,8 @@ impl Line for Version {
 impl Line for Fraction {
     ghost due = { λ number. form.Period };
 
-    ghost says = { λ circuit scale number words period. DenotesPeriod words period };
+    ghost says = { λ circuit scale number words period.
+        (words ≡ period_line period) × IsSmallPeriod period };
 
     fn read(_rules: &Rules, _number: u32, scan: &mut Scan) -> Result<Fraction, NoMemory> {
         scan.keyword(b"period");

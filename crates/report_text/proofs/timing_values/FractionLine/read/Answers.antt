@@ -6,4 +6,4 @@ pub returns-clause-read : goal.returns-clause-read
 returns-clause-read c =
     let circuit = c.args._rules.now.circuit.now in
     form_read refl (takes_then (c.keyword.ensures circuit) (c.period.ensures circuit))
-    (λ are holds. record { line = are; small = holds.1 })
+    (λ are holds. (are, holds.1))
