@@ -15,7 +15,8 @@ returns-clause-read c =
     let circuit = c.args.rules.now.circuit.now in
     let (all, some, few) = c.in-Some.ensures.some in
     rw (to_z-of_z w128 c.length-length.result (record { sfits = c.length-length.type_inv }))
-    (form_read (points_are c.args.rules.now.circuit.now c.args.rules.now.scale c.args.number c.args.scan.now.words
+    (form_read (points_are c.args.rules.now.circuit.now c.args.rules.now.scale c.args.number
+    c.args.scan.now.words
     c.in-Some.points (sym c.len.ensures ∙ all) some few)
     (takes_then (c.exactly.ensures circuit) (takes_then (c.read_point-place.ensures circuit)
     (takes_then (c.length-length.ensures circuit) (takes_then (c.exactly-2.ensures circuit)
