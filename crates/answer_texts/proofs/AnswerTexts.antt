@@ -3,7 +3,7 @@
 use Rattle.answer_texts.proofs.Vocabulary.{◌≡◌, ◌<◌, ◌≤◌, inl, inr, ℕ, zero, suc, ℤ, true, List, [], ◌∷◌, ◌++◌, length, map, nat_abs, refl, ap, sym, subst, append-nil, arith, pos, ints, length-map, length-replicate, All-weaker, Fraction, Circuit, Constraint, PeriodShow, Problem, First, Second, Tech, Topology, IsBetweenRegisters, report_lines, Words, text_of, show_lines, IsCycle, HasNoPeriod, IsForbidding, IsLeastFraction, tails_within, CornersOutcome, AreOfCorners, IsCommonShow, IsCornersOutcome, Form, MarginOutcome, IsMarginOutcome, wire_line, report_lines_are, all_at_zero, numbered_line_at, numbered_lines, common_show_lines, corners_lines, corners_status, IsCornersText, summary_lines, IsSummaryText, IsDemoText, IsTreeText, IsSynthesisText, IsEmbeddingText, margin_lines, IsMarginText, period_lines, never_lines, outcome_status, IsPeriodText, schedule_lines, IsScheduleText, IsFoundOrNever, IsSynthText, IsEmbedText, zero_lines, IsZeroText}
 use Rattle.cts_model.specs.declared.period.PeriodShow.TheVariants as shows
 use Rattle.answer_texts.specs.Types.{Point}
-use Rattle.cts_model.specs.Vocabulary.{grid_of}
+use Rattle.cts_model.specs.Vocabulary.{IsWithinBounds, grid_of}
 use Rattle.cts_model.proofs.CircuitConstraints.{forbidding_at_all}
 use Rattle.cts_model.proofs.ScaleLemmas.{size_same}
 use Rattle.corners.specs.declared.outcome.CornersOutcome.TheVariants as outcomes

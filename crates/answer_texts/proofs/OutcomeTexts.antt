@@ -18,7 +18,7 @@ module _ (problem : Problem) where
       → text ≡ text_of (synthesis_lines problem.circuit outcome) → IsSynthText problem status text
   synth_says (Done report) made lowest status text done spelled =
       subst (λ s. IsSynthText problem s text) (sym done)
-      (synthesis_spelled problem report lowest made text spelled, made.made.bounds)
+      (synthesis_spelled problem report lowest made text spelled)
   synth_says (Never cycle) forbids lowest status text never spelled =
       subst (λ s. IsSynthText problem s text) (sym never)
       (record { cycle = cycle; forbids = forbids; lowest = lowest; spelled = spelled })
@@ -31,7 +31,7 @@ module _ (problem : Problem) where
       → IsEmbedText problem topology status text
   embed_says topology (Done report) made lowest status text done spelled =
       subst (λ s. IsEmbedText problem topology s text) (sym done)
-      (embedding_spelled problem report lowest topology made text spelled, made.bounds)
+      (embedding_spelled problem report lowest topology made text spelled)
   embed_says topology (Never cycle) forbids lowest status text never spelled =
       subst (λ s. IsEmbedText problem topology s text) (sym never)
       (record { cycle = cycle; forbids = forbids; lowest = lowest; spelled = spelled })

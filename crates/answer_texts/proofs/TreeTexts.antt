@@ -1,5 +1,6 @@
 -- A text that spells the report of a clock tree, and the summary of one.
 use Rattle.answer_texts.proofs.Vocabulary.{◌≡◌, ℕ, List, refl, Problem, Report, Topology, text_of, report_lines, summary_lines, IsSummaryText, IsTreeText, IsSynthesisText, IsEmbeddingText}
+use Rattle.cts_model.specs.Vocabulary.{IsWithinBounds}
 use Rattle.cert_check.specs.declared.verdict.Verdict.TheVariants.{Shown}
 use Rattle.cert_check.specs.Verdicts.{IsVerdict}
 use Rattle.outcomes.specs.Syntheses.{IsReportWith, IsReportOf}
@@ -20,23 +21,29 @@ module _ (problem : Problem) (report : Report) (lowest : ShowsFromLowest report.
     lowest = lowest;
   }
 
-  -- that by the topology that is given
+  -- that by the topology that is given, within bounds
   pub embedding_spelled : (topology : Topology) → IsReportWith problem topology report
       → (text : List ℕ) → text ≡ text_of (report_lines problem.circuit report)
-      → IsEmbeddingText problem topology text
+      → (is : IsEmbeddingText problem topology text) × IsWithinBounds problem.tech is.tree.report
   unfolding tree_spelled
-  embedding_spelled topology made text spelled =
-      record { tree = tree_spelled topology made text spelled; given = made.given }
+  embedding_spelled topology made text spelled = (
+    record { tree = tree_spelled topology made text spelled; given = made.given },
+    made.bounds,
+  )
 
   module _ (made : IsReportOf problem report) where
     -- and that by the greedy one
     pub synthesis_spelled : (text : List ℕ)
-        → text ≡ text_of (report_lines problem.circuit report) → IsSynthesisText problem text
+        → text ≡ text_of (report_lines problem.circuit report)
+        → (is : IsSynthesisText problem text) × IsWithinBounds problem.tech is.tree.report
     unfolding tree_spelled
-    synthesis_spelled text spelled = record {
-      tree = tree_spelled report.topology made.made text spelled;
-      greedy = made.greedy;
-    }
+    synthesis_spelled text spelled = (
+      record {
+        tree = tree_spelled report.topology made.made text spelled;
+        greedy = made.greedy;
+      },
+      made.made.bounds,
+    )
 
     -- so the summary of a report that the checker shows is one of that tree
     pub summary_says : (registers : ℕ) → IsVerdict problem report Shown → (text : List ℕ)
@@ -44,7 +51,7 @@ module _ (problem : Problem) (report : Report) (lowest : ShowsFromLowest report.
     unfolding tree_spelled synthesis_spelled
     summary_says registers checked text spelled = record {
       printed = text_of (report_lines problem.circuit report);
-      tree = synthesis_spelled (text_of (report_lines problem.circuit report)) refl;
+      tree = (synthesis_spelled (text_of (report_lines problem.circuit report)) refl).0;
       bounds = made.made.bounds;
       checked = checked;
       spelled = spelled;

@@ -1,6 +1,8 @@
 -- The wires of a tree, drawn merge by merge.
 use Rattle.std.proofs.Common.{IsSomeAnd, Option, None}
-use Rattle.cts_engine.proofs.Vocabulary.{◌≡◌, ◌≢◌, ◌⊎◌, ◌<◌, ◌≤◌, ◌+◌, ◌*◌, ℕ, List, length, get_or, Some, inl, inr, refl, sym, ap, subst, ◌∙◌, arith, All, slice_get, cases_eq, cases_lt, get_or-set_same, get_or-set_other, length-set, slice_get_within, slice_get-get_or, get_or_from_slice_get, Merge, Tree, Wire, embedding_of, IsSmallWire, IsParent, IsTopology, Joins, root_of, source_of, joined_by, made_parent, one_parent, first_made, merge_at, merge_here, second_made, some_and, AreDrawn, IsEdgeDrawn, IsWireOf}
+use Rattle.cts_model.specs.Vocabulary.{Embedding}
+use Rattle.outcomes.specs.Syntheses.{EachEdge}
+use Rattle.cts_engine.proofs.Vocabulary.{ℤ, take, Point, ◌≡◌, ◌≢◌, ◌⊎◌, ◌<◌, ◌≤◌, ◌+◌, ◌*◌, ℕ, List, length, get_or, Some, inl, inr, refl, sym, ap, subst, ◌∙◌, arith, All, slice_get, cases_eq, cases_lt, get_or-set_same, get_or-set_other, length-set, slice_get_within, slice_get-get_or, get_or_from_slice_get, Merge, Tree, Wire, embedding_of, IsSmallWire, IsParent, IsTopology, Joins, root_of, source_of, joined_by, made_parent, one_parent, first_made, merge_at, merge_here, second_made, some_and, AreDrawn, IsEdgeDrawn, IsWireOf}
 
 -- the wire at the node's number is drawn from the parent
 abbrev pub HasWire : Tree → (node parent : ℕ) → List Wire → Type 0
@@ -12,6 +14,16 @@ some_then : {X : Type 0} (found : Option X) {Has Gets : X → Type 0} → IsSome
     → ((x : X) → Has x → Gets x) → IsSomeAnd found Gets
 some_then (Some x) has gets = gets x has
 some_then None has gets = absurd has
+
+-- an edge whose wire is this one has what each edge has
+pub edge_wire : (Holds : Point → Point → ℤ → List Point → Type 0) (sinks : ℕ) (merges : List Merge)
+    (tree : Embedding) (wires : List Wire) → EachEdge Holds sinks merges tree wires
+    → (node parent : ℕ) (wire : Wire) → IsParent sinks merges node parent
+    → slice_get wires node ≡ Some wire
+    → Holds (tree.place parent) (tree.place node) (tree.length node) (take wire.used wire.corners)
+edge_wire Holds sinks merges tree wires each node parent wire joins found =
+    subst (λ o. IsSomeAnd o (λ wire. Holds (tree.place parent) (tree.place node) (tree.length node)
+    (take wire.used wire.corners))) found (each node parent joins)
 
 -- there is a wire for each node, and those are drawn whose parents are made before a place
 pub record AreDrawnBefore (sinks : ℕ) (merges : List Merge) (tree : Tree) (place next : ℕ)

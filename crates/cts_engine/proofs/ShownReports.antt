@@ -2,7 +2,8 @@
 use Rattle.cts_engine.proofs.Vocabulary.{◌≡◌, ◌⊎◌, ◌<◌, ◌-◌, ℕ, zero, suc, ℤ, ◌*ℤ◌, ◌≤ℤ◌, List, [], ◌∷◌, length, Bool, true, false, Option, Some, None, inl, inr, refl, sym, ap, subst, ◌∙◌, arith, All, IfSome, MatchBool, nat_le, slice_get, ints, IfSome_then, get_or_from_slice_get, slice_get_within, Fraction, Circuit, Constraint, PeriodShow, Cycle, Floor, Sink, Uv, Problem, Report, Lead, Zero, Tight, Tech, Merge, Show, Tree, ArePathsOf, ArePathsWithin, GivesWeight, IsConstraintOf, Embedding, embedding_of, IsLead, ShowsEarliest, IsPeriodShow, rotated, AtEach, IsShown, IsShownLeast, IsShownTiming, IsShownTree, cycle_of, sinks_in, source_in, IsTopology, size_same, wires_are_left, IsPlacedTree, reach_in, IsReportWith, IsSynthesis, ShowsSynthesis}
 use Rattle.std.proofs.Math.IntN.{*ℤ_comm}
 use Rattle.cts_engine.specs.Types.{Topology}
-use Rattle.cts_model.specs.Vocabulary.{GivesPeriod, HasShape, HoldsTogether, IsGivenPath, IsOfCircuit, IsReachShown, IsSkewed}
+use Rattle.cts_model.specs.Vocabulary.{IsDrawn, GivesPeriod, HasShape, HoldsTogether, IsGivenPath, IsOfCircuit, IsReachShown, IsSkewed}
+use Rattle.cts_engine.proofs.DrawLemmas.{edge_wire}
 use Rattle.cts_model.proofs.RoundLemmas.{cycle_holds_together}
 use Rattle.cts_model.proofs.ShownTrees.{scaled-once}
 
@@ -143,7 +144,9 @@ module _ (problem : Problem) (report : Report) (is : IsSynthesis problem report)
   is_shown_tree = record {
     shape = λ node within. has_shape is.topology shows.placed node;
     long_enough = λ edge within parent is. shows.placed.embedded.long_enough edge parent is;
-    drawn = λ edge within parent wire joins here. rw here at is.drawn edge parent joins;
+    drawn = λ edge within parent wire joins here. edge_wire IsDrawn
+        (length (sinks_in problem report)) report.topology.merges (embedding_of report.tree)
+        report.wires is.drawn edge parent wire joins here;
     skewed = is_skewed is.topology shows.placed;
     reaches = λ node within. is_reach_shown is.topology shows.placed node;
     total = is.total;

@@ -1,8 +1,9 @@
 -- The tree of a report is within its bounds and of its circuit's size.
 use Rattle.cts_engine.proofs.Vocabulary.{◌≡◌, ◌⊎◌, ◌<◌, ◌≤◌, ◌+◌, ◌*◌, ◌^◌, ℕ, ℤ, pos, ◌-ℤ◌, neg_ℤ, ◌≤ℤ◌, List, length, take, drop, get_or, Some, inl, inr, sym, ap, subst, ◌∙◌, arith, All, IfSome, slice_get, cases_lt, ints, clamps, get_or-drop, get_or-take, length-drop, length-take, get_or_from_slice_get, slice_get-get_or, slice_get_within, Fraction, Point, Sink, Uv, Tech, Merge, Show, Tree, Wire, embedding_of, IsGreedy, IsBelow, IsMultipleOf, IsPointBelow, IsUvBelow, IsUvMultipleOf, apart, distance, rotated, scheduled_length, sinks_of, IsMergeShow, IsSmallMerge, IsSmallWire, IsSourceShow, ShowsAmong, arrival_of, AreShown, AreShownBy, ShowsMerge, ShowsSource, IsParent, IsTopology, numbers_below, root_of, source_of, parent_above, parent_stands, distance-rotated, sink_at, first_made, second_made, some_and, AreTreeLists, HasTreeNumbers, AreDrawn, CanDraw}
 use Rattle.std.specs.Int.{int_max}
+use Rattle.cts_model.specs.Vocabulary.{IsDrawn}
 use Rattle.cts_model.specs.declared.tree.Show.TheVariants as variants
-use Rattle.cts_engine.proofs.DrawLemmas.{root_parent}
+use Rattle.cts_engine.proofs.DrawLemmas.{edge_wire, root_parent}
 
 -- ---- plain points
 
@@ -203,8 +204,8 @@ pub source_begins : (sinks : ℕ) (merges : List Merge) (tree : Tree) (wires : L
 source_begins sinks merges tree wires some lists drawn small wire found =
     let origin : Point = record { x = pos 0; y = pos 0 } in
     let place = (embedding_of tree).place (source_of sinks) in
-    let begins = (rw found at drawn.drawn (root_of sinks) (source_of sinks)
-    (root_parent sinks merges)).begins in
+    let begins = (edge_wire IsDrawn sinks merges (embedding_of tree) wires drawn.drawn
+    (root_of sinks) (source_of sinks) wire (root_parent sinks merges) found).begins in
     let first = get_or_from_slice_get (take wire.used wire.corners) 0 place origin begins in
     let within = slice_get_within (take wire.used wire.corners) 0 place begins in
     let used : 0 < wire.used = omega (arith, length-take wire.used wire.corners) in
