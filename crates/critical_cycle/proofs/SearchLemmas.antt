@@ -1,5 +1,5 @@
 -- What a trial and a raise leave shown.
-use Rattle.critical_cycle.proofs.Vocabulary.{drop, ℕ, ◌≡◌, ◌<◌, ◌≤◌, ◌+◌, ◌*◌, ℤ, pos, neg_ℤ, ◌*ℤ◌, ◌≤ℤ◌, ◌<ℤ◌, List, Option, Some, None, refl, sym, subst, arith, false, MatchOption, nat_abs, mul-le-mul_left, ints, by_lt_z, Fraction, Constraint, AreSmallConstraints, IsCycle, Measure, Gains, AreWithin, constraints_at, CanTry, IsTrialAt, SatisfiesRatio, most_weight, IsRaise, ClosesWithNext, IsGreatestShown, IsNeverAtAll, IsSettled, IsShown, raises_left, steps_below, SatisfiesGains, total_gain, up, down}
+use Rattle.critical_cycle.proofs.Vocabulary.{drop, ℕ, ◌≡◌, ◌<◌, ◌≤◌, ◌+◌, ◌*◌, ℤ, pos, neg_ℤ, ◌*ℤ◌, ◌≤ℤ◌, ◌<ℤ◌, List, Option, Some, None, refl, sym, subst, arith, MatchOption, nat_abs, mul-le-mul_left, ints, by_lt_z, Fraction, Constraint, IsCycle, Measure, Gains, AreWithin, constraints_at, CanTry, IsTrialAt, SatisfiesRatio, most_weight, IsRaise, IsGreatestShown, IsNeverAtAll, IsSettled, IsShown, raises_left, steps_below, SatisfiesGains, total_gain, up, down}
 use Rattle.critical_cycle.specs.Searches.{IsAtShown}
 use Rattle.critical_cycle.specs.declared.search.Search.{Search}
 use Rattle.critical_cycle.specs.declared.shown.Shown.{Shown}
@@ -153,17 +153,6 @@ ring_shows search start places cycle new at is within is_cycle gains raise =
     search.shown
     new search.ratio search.can search.shows at.greatest within is_cycle
     (not_kept search.measure search.ratio search.trial _ new at.at gains judged) judged
-
--- two constraints that close a cycle join two registers
-pub two_registers : (registers : ℕ) (constraints : List Constraint) (place : ℕ)
-    → AreSmallConstraints registers constraints → ClosesWithNext constraints place → 2 ≤ registers
-two_registers registers constraints place small closes =
-    let d : Constraint = record { setup = false; tail = 0; head = 0; weight = pos 0 } in
-    let close = closes.close d in
-    let first = (small.each place d (omega (arith, closes.next))).tail in
-    let second = (small.each (place + 1) d closes.next).tail in
-    let apart = close.apart in
-    omega arith
 
 -- where no ratio is enough nothing else is owed
 pub never_settled : (measure : Measure) (constraints : List Constraint) (first : Fraction)

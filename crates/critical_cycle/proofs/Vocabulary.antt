@@ -26,6 +26,6 @@ pub use Rattle.critical_cycle.specs.Periods.{HasForbidding, HasSmallValue, IsFlo
 pub use Rattle.critical_cycle.specs.Raises.{IsRaisedTo, NeverCounts, IsRaise}
 pub use Rattle.critical_cycle.specs.RatioSizes.{most_weight}
 pub use Rattle.critical_cycle.specs.Ratios.{IsForbiddenBy, IsRatioOf, IsShownRatio}
-pub use Rattle.critical_cycle.specs.Searches.{ClosesWithNext, IsSameSearch}
+pub use Rattle.critical_cycle.specs.Searches.{IsSameSearch}
 pub use Rattle.critical_cycle.specs.ShownRatios.{IsNeverShown, IsValueShown, IsGreatestShown, IsNeverAtAll, IsSettled, IsShown, raises_left, steps_below}
 pub use Rattle.critical_cycle.specs.declared.measure.Measure.{Measure}

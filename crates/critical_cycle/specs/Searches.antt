@@ -1,5 +1,5 @@
 -- The search for the greatest ratio: what it keeps from trial to trial.
-use Rattle.std.specs.Prelude.{◌≡◌, ◌≢◌, ◌<◌, ◌+◌, ℕ, List, length, slice_index_or}
+use Rattle.std.specs.Prelude.{◌≡◌, ◌≢◌, ℕ, List, length}
 use Rattle.cts_base.specs.declared.fraction.Fraction.{Fraction}
 use Rattle.cts_model.specs.declared.constraint.Constraint.{Constraint}
 use Rattle.relaxation.specs.Relaxing.{IsFarUp}
@@ -38,9 +38,3 @@ pub record CloseACycle (first second : Constraint) : Type 0 where
   pub there : first.head ≡ second.tail
   pub back : second.head ≡ first.tail
   pub apart : first.tail ≢ second.tail
-
--- so do the constraint at the place and the next one
-pub record ClosesWithNext (constraints : List Constraint) (place : ℕ) : Type 0 where
-  pub next : place + 1 < length constraints
-  pub close : (d : Constraint) → CloseACycle (slice_index_or constraints place d)
-      (slice_index_or constraints (place + 1) d)

@@ -10,5 +10,5 @@ pub use Rattle.critical_cycle.specs.Measures.{CanTry}
 pub use Rattle.critical_cycle.specs.Periods.{HasForbidding, HasSmallValue, IsFloor, IsNeverPeriod, IsPeriodOf, period_of}
 pub use Rattle.critical_cycle.specs.Raises.{IsRaise}
 pub use Rattle.critical_cycle.specs.Ratios.{IsRatioOf}
-pub use Rattle.critical_cycle.specs.Searches.{ClosesWithNext, IsAtShown, IsSameSearch, IsSearchFor}
+pub use Rattle.critical_cycle.specs.Searches.{CloseACycle, IsAtShown, IsSameSearch, IsSearchFor}
 pub use Rattle.critical_cycle.specs.ShownRatios.{IsNeverAtAll, IsSettled}

@@ -55,7 +55,7 @@ impl Policy<'_> {
         ensures { IsSameSearch self.old.search self.new.search }
     {
         let Some(register) = self.rounds.gaining_ring(self.search.trial) else {
-            self.rounds.take(self.search.trial);
+            self.rounds.take_round(self.search.trial);
             return;
         };
         self.rounds.let_all_wait();

@@ -35,7 +35,7 @@ pub(crate) struct Search<'a> {
 }
 
 impl<'a> Search<'a> {
-    ghost use Rattle.critical_cycle.specs.Vocabulary.{AreWithin, ClosesWithNext, IsAtShown, IsCycle, IsNeverAtAll, IsSameSearch, IsSearchFor, constraints_at};
+    ghost use Rattle.critical_cycle.specs.Vocabulary.{AreWithin, CloseACycle, IsAtShown, IsCycle, IsNeverAtAll, IsSameSearch, IsSearchFor, constraints_at};
 
     /// The search at the first ratio, before anything else is shown, in a list that may hold any
     /// numbers. It takes no memory.
@@ -64,13 +64,23 @@ impl<'a> Search<'a> {
     }
 
     /// Looks at each constraint whether it closes a cycle alone or with the next one, and shows the
-    /// greatest ratio of these cycles.
+    /// greatest ratio of these cycles. Two are looked at closely where they gain something at the
+    /// ratio that was shown last.
     pub(crate) fn look_at_short_cycles(&mut self)
         ensures { IsSameSearch self.old self.new }
     {
-        for place in 0..self.constraints.len() {
-            self.look_at_loop(place);
-            self.look_at_pair(place);
+        let constraints = self.constraints;
+        for (place, constraint) in constraints.iter().enumerate() {
+            if constraint.tail == constraint.head {
+                self.consider(&[place as u32]);
+            }
+            let Some(next) = constraints.get(place + 1) else {
+                return;
+            };
+            if Search::close_a_cycle(constraint, next) && self.gain_together(constraint, next) {
+                self.consider(&[place as u32, place as u32 + 1]);
+                self.try_shown();
+            }
         }
     }
 
@@ -89,51 +99,17 @@ impl<'a> Search<'a> {
         true
     }
 
-    // A constraint that leads back to its own tail is a cycle.
-    fn look_at_loop(&mut self, place: usize)
-        requires { place < length self.old.constraints.now }
-        ensures { IsSameSearch self.old self.new }
+    // Whether two constraints lead to one another's tail, two different registers.
+    fn close_a_cycle(first: &Constraint, second: &Constraint) -> bool
+        ensures { IsTrue result → CloseACycle first.now second.now }
     {
-        let constraint = &self.constraints[place];
-        if constraint.tail == constraint.head {
-            self.consider(&[place as u32]);
-        }
-    }
-
-    // Two constraints that lead to one another's tail are a cycle. It is looked at closely where
-    // they gain something at the ratio that was shown last.
-    fn look_at_pair(&mut self, place: usize)
-        requires { place < length self.old.constraints.now }
-        ensures { IsSameSearch self.old self.new }
-    {
-        if self.closes_with_next(place) && self.gains_with_next(place) {
-            self.consider(&[place as u32, place as u32 + 1]);
-            self.try_shown();
-        }
-    }
-
-    // Whether a constraint and the next one lead to one another's tail, two different registers.
-    fn closes_with_next(&self, place: usize) -> bool
-        requires { place < length self.now.constraints.now }
-        ensures { IsTrue result → ClosesWithNext self.now.constraints.now place }
-    {
-        if place + 1 >= self.constraints.len() {
-            return false;
-        }
-        let first = &self.constraints[place];
-        let second = &self.constraints[place + 1];
         first.head == second.tail && second.head == first.tail && first.tail != second.tail
     }
 
-    // Whether a setup and a hold constraint that come one after the other may gain something in
-    // all. It is a hint, asked of other pairs too.
-    fn gains_with_next(&self, place: usize) -> bool
-        requires { place < length self.now.constraints.now }
-    {
-        let Some(next) = self.constraints.get(place + 1) else {
-            return false;
-        };
-        let weight = self.constraints[place].weight.wrapping_add(next.weight);
+    // Whether a setup and a hold constraint may gain something in all. It is a hint, asked of other
+    // pairs too.
+    fn gain_together(&self, first: &Constraint, second: &Constraint) -> bool {
+        let weight = first.weight.wrapping_add(second.weight);
         weight.wrapping_mul(self.trial.scale) > self.trial.setup.wrapping_add(self.trial.hold)
     }
 

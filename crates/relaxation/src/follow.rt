@@ -25,7 +25,7 @@ impl Rounds<'_> {
 
     /// Gives each register a value by its parents, from new ones where each register waits, and
     /// lets those that wait hand their values on. It takes no memory.
-    pub fn take(&mut self, gains: Gains)
+    pub fn take_round(&mut self, gains: Gains)
         ensures { AreSameRounds self.old self.new }
     {
         self.lower();

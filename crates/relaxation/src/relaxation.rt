@@ -1,4 +1,4 @@
-ghost use Rattle.std.specs.Prelude.{◌≡◌, ◌<◌, ◌^◌, ℕ, pos, None, All, IfSome, MatchOption, length, replicate, slice_set};
+ghost use Rattle.std.specs.Prelude.{◌≡◌, ◌<◌, ◌^◌, ℕ, pos, [], None, All, IfSome, MatchOption, length, replicate, slice_set};
 ghost use Rattle.cts_model.specs.Vocabulary.{IsBelow, AreSmallConstraints};
 ghost use Rattle.relaxation.specs.Places.{place_at};
 
@@ -33,7 +33,8 @@ impl<'a> Relaxation<'a> {
     /// Values of 0 that keep no parents, in a list that may hold any. It takes no memory.
     pub fn without_parents(constraints: &'a [Constraint], values: Vec<i128>) -> Relaxation<'a>
         requires { AreSmallConstraints (length values.items) constraints.now }
-        ensures { IsFromZero constraints.now (length values.items) result }
+        ensures zero { IsFromZero constraints.now (length values.items) result }
+        ensures parents { result.parents.items ≡ [] }
     {
         let parents = Vec::new(*values.allocator());
         Relaxation::from_zero(constraints, values, parents)

@@ -9,9 +9,9 @@ pub settled-at-requires : goal.settled-at-requires
 settled-at-requires c =
     let constraints = c.args.constraints.now in
     rw (
-      c.without_parents-relaxation.ensures.constraints_are,
+      c.without_parents-relaxation.ensures.zero.constraints_are,
       c.as_slice.ensures,
-      c.without_parents-relaxation.ensures.values,
+      c.without_parents-relaxation.ensures.zero.values,
       c.into_vec.ensures,
     )
     (CanRaise-zero (length c.args.at) (record {
@@ -22,12 +22,12 @@ settled-at-requires c =
 pub returns-clause-least : goal.returns-clause-least
 returns-clause-least c = least_at_period c.gains_of.ensures
     c.args.constraints.now c.settled-at.result
-    (rw (c.without_parents-relaxation.ensures.constraints_are, c.as_slice.ensures) at
+    (rw (c.without_parents-relaxation.ensures.zero.constraints_are, c.as_slice.ensures) at
     c.settled-at.ensures.least)
 
 pub returns-clause-registers : goal.returns-clause-registers
 returns-clause-registers c = c.settled-at.ensures.registers
-    ∙ (ap length c.without_parents-relaxation.ensures.values
+    ∙ (ap length c.without_parents-relaxation.ensures.zero.values
     ∙ (length-replicate (length c.into_vec.result.items) (pos 0) ∙ ap length c.into_vec.ensures))
 
 pub returns-clause-bound : goal.returns-clause-bound
@@ -35,7 +35,7 @@ returns-clause-bound c = bound_at_period c.gains_of.ensures c.args.constraints.n
     c.settled-at.result (subst (λ n. AreSmallConstraints n c.args.constraints.now)
     (sym (returns-clause-registers c)) c.requires.small)
     c.requires.period c.requires.admitted
-    (rw (c.without_parents-relaxation.ensures.constraints_are, c.as_slice.ensures) at
+    (rw (c.without_parents-relaxation.ensures.zero.constraints_are, c.as_slice.ensures) at
     c.settled-at.ensures.least)
 
 pub returns-clause-small : goal.returns-clause-small
@@ -43,5 +43,5 @@ returns-clause-small c = small_at_period c.gains_of.ensures c.args.constraints.n
     c.settled-at.result (subst (λ n. AreSmallConstraints n c.args.constraints.now)
     (sym (returns-clause-registers c)) c.requires.small)
     c.requires.period c.requires.admitted
-    (rw (c.without_parents-relaxation.ensures.constraints_are, c.as_slice.ensures) at
+    (rw (c.without_parents-relaxation.ensures.zero.constraints_are, c.as_slice.ensures) at
     c.settled-at.ensures.least)
