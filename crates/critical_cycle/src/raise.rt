@@ -13,7 +13,7 @@ pub(crate) fn raise_by(measure: Measure, ratio: Fraction, cycle: &Cycle<'_>) -> 
     ensures { IsRaise measure ratio (constraints_at cycle.now.constraints.now cycle.now.places.now)
         result }
 {
-    let sums = Sums::of(cycle).measured(measure, cycle.places.len());
+    let sums = Sums::of(measure, cycle);
     if !sums.exceed(ratio) {
         return Shown::First;
     }

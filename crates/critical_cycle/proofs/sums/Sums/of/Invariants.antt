@@ -3,7 +3,7 @@ use Rattle.critical_cycle.proofs.sums.Sums.of.Given as goal
 
 abbrev pub invariant-loop-place : goal.invariant-loop-place
 invariant-loop-place l =
-    (l.sums.weight ≡ total_weight (constraints_at l.cycle.constraints.now
+    (l.ticks ≡ total_weight (constraints_at l.cycle.constraints.now
     (take l.place-index l.cycle.places.now)))
-    × (l.sums.count ≡ pos (total_count
+    × (l.setups ≡ pos (total_count
     (constraints_at l.cycle.constraints.now (take l.place-index l.cycle.places.now))))
