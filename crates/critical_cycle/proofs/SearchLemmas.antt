@@ -1,5 +1,5 @@
 -- What a trial and a raise leave shown.
-use Rattle.critical_cycle.proofs.Vocabulary.{drop, ℕ, ◌≡◌, ◌<◌, ◌≤◌, ◌+◌, ◌*◌, ℤ, pos, neg_ℤ, ◌*ℤ◌, ◌≤ℤ◌, ◌<ℤ◌, List, Option, Some, None, refl, sym, subst, arith, MatchOption, nat_abs, mul-le-mul_left, ints, by_lt_z, Fraction, Constraint, IsCycle, Measure, Gains, AreWithin, constraints_at, CanTry, IsTrialAt, SatisfiesRatio, most_weight, IsRaise, IsGreatestShown, IsNeverAtAll, IsSettled, IsShown, raises_left, steps_below, SatisfiesGains, total_gain, up, down}
+use Rattle.critical_cycle.proofs.Vocabulary.{drop, ℕ, ◌≡◌, ◌<◌, ◌≤◌, ◌+◌, ◌*◌, ℤ, pos, neg_ℤ, ◌*ℤ◌, ◌≤ℤ◌, ◌<ℤ◌, List, Option, Some, None, refl, sym, subst, arith, MatchOption, nat_abs, mul-le-mul_left, ints, by_lt_z, Fraction, Constraint, IsCycle, Measure, Gains, AreWithin, constraints_at, CanTry, IsTrialAt, SatisfiesRatio, most_weight, IsRaise, IsGreatestShown, IsSettled, IsShown, raises_left, steps_below, SatisfiesGains, total_gain, up, down}
 use Rattle.critical_cycle.specs.Searches.{IsAtShown}
 use Rattle.critical_cycle.specs.declared.search.Search.{Search}
 use Rattle.critical_cycle.specs.declared.shown.Shown.{Shown}
@@ -153,10 +153,3 @@ ring_shows search start places cycle new at is within is_cycle gains raise =
     search.shown
     new search.ratio search.can search.shows at.greatest within is_cycle
     (not_kept search.measure search.ratio search.trial _ new at.at gains judged) judged
-
--- where no ratio is enough nothing else is owed
-pub never_settled : (measure : Measure) (constraints : List Constraint) (first : Fraction)
-    (shown : Shown) → IsNeverAtAll shown → IsSettled measure constraints first shown
-never_settled measure constraints first First never = absurd never
-never_settled measure constraints first (Value value) never = absurd never
-never_settled measure constraints first Never never = tt
