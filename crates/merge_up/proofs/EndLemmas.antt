@@ -1,7 +1,8 @@
 -- The furthest sinks of a set to the four sides, and what they say of its reach and its shows.
-use Rattle.merge_up.proofs.Vocabulary.{◌≡◌, ℕ, ◌≤◌, inl, inr, min, max, List, [], ◌∷◌, ◌++◌, Contains, Some, slice_get, filter_map, ℤ, ◌+ℤ◌, ◌-ℤ◌, neg_ℤ, ◌≤ℤ◌, sym, subst, ◌∙◌, arith, ints, clamps, to_z-of_z, Contains-append_left, Contains-append_right, filter_map-append, int_max, w128, kept, below_fits, Sink, cases_lt, ShowsMerge, sinks_of_u_show, sinks_of_v_show, span_is_symmetric, spread_is_reach, found_among, some_and, Extremes, IsExtremes, IsGreatest, IsLeastOf, spread, u_below, v_below, End, Ends, IsEnd, AreEnds, extremes_of, pair_of, u_back, v_back}
-use Rattle.tilted_rect.specs.Corners.{IsRect, IsSide}
-use Rattle.cts_model.specs.Vocabulary.{span, IsDoubleReach}
+use Rattle.merge_up.proofs.Vocabulary.{◌≡◌, ℕ, ◌≤◌, inl, inr, min, max, List, [], ◌∷◌, ◌++◌, Contains, Some, slice_get, filter_map, ℤ, ◌+ℤ◌, ◌-ℤ◌, neg_ℤ, ◌≤ℤ◌, refl, ◌*◌, ◌^◌, sym, subst, ◌∙◌, arith, ints, clamps, to_z-of_z, Contains-append_left, Contains-append_right, filter_map-append, int_max, w128, kept, difference_read, Sink, cases_lt, ShowsMerge, sinks_of_u_show, sinks_of_v_show, span_is_symmetric, spread_is_reach, found_among, some_and, Extremes, IsExtremes, IsGreatest, IsLeastOf, HasExtremeSides, spread, u_below, v_below, Rect, End, Ends, IsEnd, AreEnds, extremes_of, pair_of, u_back, v_back}
+use Rattle.tilted_rect.specs.Corners.{IsSide}
+use Rattle.std.specs.Prelude.{nat_abs}
+use Rattle.cts_model.specs.Vocabulary.{IsBelow, IsMultipleOf, span, IsDoubleReach}
 use Rattle.tilted_rect.proofs.ExtremeLemmas.{append_is_union, greatest_one, greatest_union}
 
 -- ---- one side
@@ -159,24 +160,50 @@ v_ends_show sinks numbers reach ends are twice wider =
 
 -- ---- regions
 
--- a side as the code keeps it
-pub side_kept : {side value : ℤ} → side ≡ value → IsSide side
-    → (kept side ≡ value) × IsSide (kept side)
-side_kept {side} {value} is valid =
-    let same = to_z-of_z w128 side (below_fits side valid.below) in
-    (same ∙ is, rw same valid)
+module _ (ends : Ends) (total reach : ℤ) (value : total ≡ spread (extremes_of ends))
+    (below : IsBelow (4 * 10 ^ 31) total) (multiple : IsMultipleOf 8 total)
+    (twice : reach +ℤ reach ≡ total) where
+  -- how far an end is from the reach, as the code keeps it
+  pub low : (end : End) → kept (kept end.far -ℤ kept reach) ≡ end.far -ℤ reach
+  low end = difference_read end.far reach (omega (arith, ints, end.valid)) (omega (arith, ints))
+      (omega (arith, ints, end.valid))
 
--- a reach of half the spread leaves the sides in order
-pub sides_are_rect : (ends : Ends) (reach ulo uhi vlo vhi : ℤ)
-    → reach +ℤ reach ≡ spread (extremes_of ends) → (ulo ≡ ends.high_u.far -ℤ reach) × IsSide ulo
-    → (uhi ≡ neg_ℤ ends.low_u.far +ℤ reach) × IsSide uhi
-    → (vlo ≡ ends.high_v.far -ℤ reach) × IsSide vlo
-    → (vhi ≡ neg_ℤ ends.low_v.far +ℤ reach) × IsSide vhi → IsRect ulo uhi vlo vhi
-sides_are_rect ends reach ulo uhi vlo vhi twice low_u high_u low_v high_v = record {
-  u_ordered = omega (arith, ints, clamps, twice, low_u.0, high_u.0);
-  v_ordered = omega (arith, ints, clamps, twice, low_v.0, high_v.0);
-  least_u = low_u.1;
-  greatest_u = high_u.1;
-  least_v = low_v.1;
-  greatest_v = high_v.1;
-}
+  pub high : (end : End) → kept (kept reach -ℤ kept end.far) ≡ neg_ℤ end.far +ℤ reach
+  high end = difference_read reach end.far (omega (arith, ints)) (omega (arith, ints, end.valid))
+      (omega (arith, ints, end.valid)) ∙ omega (arith, ints)
+
+  -- is a side
+  pub is_side : (end : End) (side : ℤ) → nat_abs side ≡ nat_abs (end.far -ℤ reach) → IsSide side
+  is_side end side same = record {
+    below = record {
+      above = omega (arith, ints, end.valid);
+      below = omega (arith, ints, end.valid);
+    };
+    multiple = omega (arith, ints, end.valid);
+  }
+
+  -- half of the spread leaves the sides in order
+  abbrev pub region_of : Rect
+  region_of = record {
+    ulo = kept (kept ends.high_u.far -ℤ kept reach);
+    uhi = kept (kept reach -ℤ kept ends.low_u.far);
+    vlo = kept (kept ends.high_v.far -ℤ kept reach);
+    vhi = kept (kept reach -ℤ kept ends.low_v.far);
+    valid = rw (low ends.high_u, high ends.low_u, low ends.high_v, high ends.low_v) (record {
+      u_ordered = omega (arith, ints, clamps);
+      v_ordered = omega (arith, ints, clamps);
+      least_u = is_side ends.high_u _ refl;
+      greatest_u = is_side ends.low_u _ (omega (arith, ints));
+      least_v = is_side ends.high_v _ refl;
+      greatest_v = is_side ends.low_v _ (omega (arith, ints));
+    });
+  }
+
+  pub region_sides : HasExtremeSides region_of (extremes_of ends) (kept reach)
+  region_sides = subst (HasExtremeSides region_of (extremes_of ends))
+      (sym (to_z-of_z w128 reach (omega (arith, ints)))) (record {
+        ulo = low ends.high_u;
+        uhi = high ends.low_u;
+        vlo = low ends.high_v;
+        vhi = high ends.low_v;
+      })

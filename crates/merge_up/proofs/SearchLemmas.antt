@@ -42,32 +42,26 @@ same_some : {X : Type 0} {found : Option X} {one other : X} → found ≡ Some o
     → found ≡ Some other → one ≡ other
 same_some {X} {found} {one} {other} is also = ap (λ found. unwrap_or found one) (sym is ∙ also)
 
--- so the region and the reach of a merge that is held do
-pub greatest_held : (sinks : List Sink) (merges : List Merge) (work : WorkState) (node : ℕ)
-    (region : Rect) (reach : ℤ) (side : Side) → length sinks ≤ node
-    → HoldsMerge sinks merges work (node - length sinks)
-    → slice_get work.regions node ≡ Some region → slice_get work.tree.reach node ≡ Some reach
-    → IsGreatest (far_to side) (sinks_below sinks merges node) (furthest_to side region reach)
-greatest_held sinks merges work node region reach side high held region_here reach_here =
-    let same : length sinks + (node - length sinks) ≡ node = omega (arith, high) in
-    let region_is = same_some (rw same at held.region_held) region_here in
-    let reach_is = same_some (rw same at held.reach_held) reach_here in
-    greatest_to side (sinks_below sinks merges node) region reach
-    (rw (← region_is, ← reach_is) (rw same at held.is_region))
+module _ (sinks : List Sink) (merges : List Merge) (work : WorkState) (place : ℕ) (region : Rect)
+    (reach : ℤ) (side : Side) (held : HoldsMerge sinks merges work place)
+    (region_here : slice_get work.regions (length sinks + place) ≡ Some region)
+    (reach_here : slice_get work.tree.reach (length sinks + place) ≡ Some reach) where
+  -- how far the furthest sink of the merge is
+  abbrev IsFurthest : ℤ → Type 0
+  IsFurthest = IsGreatest (far_to side) (sinks_below sinks merges (length sinks + place))
 
--- and so they do as the code's numbers hold them
-pub greatest_read : (sinks : List Sink) (merges : List Merge) (work : WorkState) (node : ℕ)
-    (region : Rect) (reach : ℤ) (side : Side) (far : ℤ) → length sinks ≤ node
-    → HoldsMerge sinks merges work (node - length sinks)
-    → slice_get work.regions node ≡ Some region → slice_get work.tree.reach node ≡ Some reach
-    → FitsSigned w128 reach → FitsSigned w128 far → far ≡ furthest_to side region (kept reach)
-    → IsGreatest (far_to side) (sinks_below sinks merges node) (kept far)
-greatest_read sinks merges work node region reach side far high held region_here reach_here
-    reach_fits far_fits is =
-    subst (IsGreatest (far_to side) (sinks_below sinks merges node))
-    (ap (furthest_to side region) (sym (to_z-of_z w128 reach reach_fits))
-    ∙ sym is ∙ sym (to_z-of_z w128 far far_fits))
-    (greatest_held sinks merges work node region reach side high held region_here reach_here)
+  -- so the region and the reach of a merge that is held do
+  pub greatest_held : IsFurthest (furthest_to side region reach)
+  greatest_held = greatest_to side (sinks_below sinks merges (length sinks + place)) region reach
+      (rw (← same_some held.region_held region_here, ← same_some held.reach_held reach_here)
+      held.is_region)
+
+  -- and so they do as the code's numbers hold them
+  pub greatest_read : (far : ℤ) → FitsSigned w128 reach → FitsSigned w128 far
+      → far ≡ furthest_to side region (kept reach) → IsFurthest (kept far)
+  greatest_read far reach_fits far_fits is = subst IsFurthest
+      (ap (furthest_to side region) (sym (to_z-of_z w128 reach reach_fits))
+      ∙ sym is ∙ sym (to_z-of_z w128 far far_fits)) greatest_held
 
 -- no tree sink is further than the code's numbers hold
 far_sink : (side : Side) (sink : Sink) → IsTreeSink sink → IsFar (far_to side sink)

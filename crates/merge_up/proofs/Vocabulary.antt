@@ -1,5 +1,5 @@
 -- The words that the proofs of this crate have in common.
-pub use Rattle.std.proofs.Common.{◌≡◌, ℕ, ◌≤◌, inl, inr, min, max, List, [], ◌∷◌, ◌++◌, Contains, Some, slice_get, filter_map, ℤ, ◌+ℤ◌, ◌-ℤ◌, neg_ℤ, ◌≤ℤ◌, sym, subst, ◌∙◌, arith, ◌⊎◌, zero, suc, ◌+◌, ◌-◌, ◌<◌, Option, None, unwrap_or, IfSome, IsSomeAnd, length, refl, ap, ◌≢◌, ◌^◌, Bool, false, replicate, take, IsFalse, set, slice_set, rules, get_or, pos, ◌*◌, true}
+pub use Rattle.std.proofs.Common.{◌≡◌, ℕ, ◌≤◌, inl, inr, min, max, List, [], ◌∷◌, ◌++◌, Contains, Some, slice_get, filter_map, ℤ, ◌+ℤ◌, ◌-ℤ◌, neg_ℤ, ◌≤ℤ◌, sym, subst, ◌∙◌, arith, ◌⊎◌, zero, suc, ◌+◌, ◌-◌, ◌<◌, Option, None, unwrap_or, IfSome, IsSomeAnd, length, refl, ap, ◌≢◌, ◌^◌, Bool, false, replicate, take, IsFalse, set, slice_set, rules, pos, ◌*◌, true}
 pub use Rattle.std.proofs.Math.Seq.{take-set-lt}
 pub use Rattle.std.proofs.lemmas.Bool.{cases_lt, cases_eq}
 pub use Rattle.std.proofs.lemmas.Int.{ints, clamps, to_z-of_z}

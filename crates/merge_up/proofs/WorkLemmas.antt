@@ -1,5 +1,5 @@
 -- What a room holds after a node is renewed.
-use Rattle.merge_up.proofs.Vocabulary.{◌≡◌, ◌≢◌, inl, inr, ℕ, zero, suc, ◌+◌, ◌-◌, ◌^◌, ◌<◌, ◌≤◌, min, Bool, false, replicate, take, IsFalse, List, [], ◌∷◌, ◌++◌, length, set, Option, Some, unwrap_or, IsSomeAnd, slice_get, slice_set, filter_map, ℤ, ◌+ℤ◌, refl, sym, ap, subst, ◌∙◌, arith, rules, cases_eq, length-set, get_or-set_same, length-take-le, take-replicate, All-replicate, take-set-lt, slice_get-get_or, slice_get_within, Sink, Merge, ShowsMerge, IsTopology, Joins, numbers_below, merge_at, merge_here, numbers_below-merge, HasExtremeSides, spread, Rect, region_from_sides, spread_is_reach, HoldsJoined, HoldsMerge, HoldsSink, HoldsSinks, KeepsEnds, IsPointOf, IsRenewed, IsSinkSet, IsUnsettled, renewed_as, AreEnds, extremes_of, HasEntries, state_of, WorkState, IsFit, Ends}
+use Rattle.merge_up.proofs.Vocabulary.{◌≡◌, ◌≢◌, inl, inr, ℕ, zero, suc, ◌+◌, ◌-◌, ◌^◌, ◌<◌, ◌≤◌, min, Bool, false, replicate, take, IsFalse, List, [], ◌∷◌, ◌++◌, length, set, Option, Some, unwrap_or, IsSomeAnd, slice_get, slice_set, filter_map, ℤ, ◌+ℤ◌, refl, sym, ap, subst, ◌∙◌, arith, rules, cases_eq, length-set, get_or-set_same, length-take-le, take-replicate, All-replicate, take-set-lt, slice_get-get_or, slice_get_within, Sink, Merge, ShowsMerge, IsTopology, numbers_below, merge_at, merge_here, numbers_below-merge, HasExtremeSides, spread, Rect, region_from_sides, spread_is_reach, HoldsJoined, HoldsMerge, HoldsSink, HoldsSinks, KeepsEnds, IsPointOf, IsRenewed, IsSinkSet, IsUnsettled, renewed_as, AreEnds, extremes_of, HasEntries, state_of, WorkState, IsFit, Ends}
 use Rattle.cts_model.specs.declared.tree.Show.{Show}
 use Rattle.merge_up.specs.declared.work.Work.TheInside.{Inside}
 use Rattle.merge_up.proofs.EndLemmas.{ends_are_extremes}
@@ -242,26 +242,18 @@ pub record IsMergedBefore (sinks : List Sink) (merges : List Merge) (place : ℕ
   pub kept : (lower : ℕ) → lower < place → KeepsEnds sinks merges work lower
   pub settled : IsUnsettled work
 
--- a merge joins sinks and merges before it
-pub joined_before : (sinks : ℕ) (merges : List Merge) (place : ℕ) (Holds : ℕ → Type 0)
-    → IsTopology sinks merges → ((lower : ℕ) → lower < place → Holds lower)
-    → (node : ℕ) → node ≡ sinks + place → (merge : Merge) (lower : ℕ)
-    → slice_get merges (node - sinks) ≡ Some merge → Joins merge (sinks + lower) → Holds lower
-joined_before sinks merges place Holds topology held node at merge lower here joins =
-    let same : node - sinks ≡ place = omega (arith, at) in
-    held lower (omega (
-      arith,
-      joined_low sinks merges place merge (sinks + lower) topology
-          (subst (λ n. slice_get merges n ≡ Some merge) same here) joins,
-    ))
-
--- which are held
+-- a merge joins sinks and merges before it, which are held
 pub joined_held : (sinks : List Sink) (merges : List Merge) (place : ℕ) (work : WorkState)
     → IsTopology (length sinks) merges
     → ((lower : ℕ) → lower < place → HoldsMerge sinks merges work lower)
     → (node : ℕ) → node ≡ length sinks + place → HoldsJoined sinks merges work node
-joined_held sinks merges place work =
-    joined_before (length sinks) merges place (HoldsMerge sinks merges work)
+joined_held sinks merges place work topology held node at merge lower here joins =
+    let same : node - length sinks ≡ place = omega (arith, at) in
+    held lower (omega (
+      arith,
+      joined_low (length sinks) merges place merge (length sinks + lower) topology
+          (subst (λ n. slice_get merges n ≡ Some merge) same here) joins,
+    ))
 
 -- once the next is made
 pub merged_next : (sinks : List Sink) (merges : List Merge) (place : ℕ) (old work new : WorkState)

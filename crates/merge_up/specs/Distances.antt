@@ -6,8 +6,3 @@ use Rattle.cts_model.specs.Vocabulary.{IsBelow, IsMultipleOf}
 pub record IsFar (far : ℤ) : Type 0 where
   pub below : IsBelow (2 * 10 ^ 31) far
   pub multiple : IsMultipleOf 8 far
-
--- a coordinate or an offset
-pub record IsStep (number : ℤ) : Type 0 where
-  pub below : IsBelow (10 ^ 31) number
-  pub multiple : IsMultipleOf 8 number

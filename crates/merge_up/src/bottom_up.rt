@@ -2,6 +2,7 @@ ghost use Rattle.std.specs.Prelude.{◌≡◌, ◌≤◌, ◌+◌, ◌-◌, ◌^
 ghost use Rattle.cts_model.specs.Vocabulary.{AreTreeSinks, IsTopology};
 ghost use Rattle.merge_up.specs.Merging.{IsMerged, IsUnsettled};
 
+use crate::nodes::Nodes;
 use crate::work::Work;
 use cts_model::{Sink, Topology};
 
@@ -17,8 +18,20 @@ pub fn merge(work: &mut Work, sinks: &[Sink], topology: &Topology)
     ensures renewals { work.new.renewals
         ≡ min (work.old.renewals + length topology.now.merges) (2 ^ 64 - 1) }
 {
-    work.begin(sinks);
-    for place in 0..topology.merges.len() {
-        work.make(sinks, topology, (sinks.len() + place) as u32);
+    work.begin(sinks.len());
+    for register in 0..sinks.len() {
+        work.set_sink(register as u32, sinks[register]);
+    }
+    let merges = topology.merges.as_slice();
+    for place in 0..merges.len() {
+        let nodes = Nodes {
+            sinks,
+            merges,
+            work,
+        };
+        let merge = merges[place];
+        let first = nodes.kept_ends(merge.first);
+        let second = nodes.kept_ends(merge.second);
+        work.hold(place, first.joined(second));
     }
 }

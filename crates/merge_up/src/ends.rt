@@ -1,7 +1,8 @@
-ghost use Rattle.std.specs.Prelude.{◌≡◌, ℕ, ℤ, ◌+ℤ◌, ◌-ℤ◌, neg_ℤ, ◌∷◌, [], ◌++◌, List, Some, slice_get};
+ghost use Rattle.std.specs.Prelude.{◌≡◌, ℕ, ℤ, ◌+ℤ◌, ◌∷◌, [], ◌++◌, List, Some, slice_get};
 ghost use Rattle.cts_model.specs.declared.place.Sink.{Sink};
 
 use crate::end::End;
+use crate::side::Side;
 use cts_model::{Show, Sink, half};
 use tilted_rect::Rect;
 
@@ -30,10 +31,10 @@ impl Ends {
             → AreEnds sinks (register ∷ []) result }
     {
         Ends {
-            high_u: end_at(register, sink.at.u, sink.offset),
-            low_u: end_at(register, -sink.at.u, sink.offset),
-            high_v: end_at(register, sink.at.v, sink.offset),
-            low_v: end_at(register, -sink.at.v, sink.offset),
+            high_u: Side::HighU.end_of(register, sink),
+            low_u: Side::LowU.end_of(register, sink),
+            high_v: Side::HighV.end_of(register, sink),
+            low_v: Side::LowV.end_of(register, sink),
         }
     }
 
@@ -51,13 +52,19 @@ impl Ends {
         }
     }
 
-    /// Half of the greater spread, that of u or that of v.
-    pub(crate) fn reach(self) -> i128
-        ensures twice { result +ℤ result ≡ spread (extremes_of self) }
-        ensures below { IsBelow (2 * 10 ^ 31) result }
-        ensures multiple { IsMultipleOf 4 result }
+    /// Half of the greater spread, and where a node with that reach may stand.
+    pub(crate) fn reach_and_region(self) -> (i128, Rect)
+        ensures twice { result.0 +ℤ result.0 ≡ spread (extremes_of self) }
+        ensures region { HasExtremeSides result.1 (extremes_of self) result.0 }
     {
-        half(self.spread())
+        let reach = half(self.spread());
+        let region = Rect {
+            ulo: self.high_u.far - reach,
+            uhi: reach - self.low_u.far,
+            vlo: self.high_v.far - reach,
+            vhi: reach - self.low_v.far,
+        };
+        (reach, region)
     }
 
     // The greater spread, that of u or that of v.
@@ -67,21 +74,6 @@ impl Ends {
         ensures multiple { IsMultipleOf 8 result }
     {
         spread(self.high_u, self.low_u).max(spread(self.high_v, self.low_v))
-    }
-
-    /// Where a node with that reach may stand.
-    pub(crate) fn region(self, reach: i128) -> Rect
-        requires twice { reach +ℤ reach ≡ spread (extremes_of self) }
-        requires below { IsBelow (2 * 10 ^ 31) reach }
-        requires multiple { IsMultipleOf 4 reach }
-        ensures { HasExtremeSides result (extremes_of self) reach }
-    {
-        Rect {
-            ulo: low_side(self.high_u, reach),
-            uhi: high_side(self.low_u, reach),
-            vlo: low_side(self.high_v, reach),
-            vhi: high_side(self.low_v, reach),
-        }
     }
 
     /// The two sinks with the greater spread.
@@ -100,22 +92,7 @@ impl Ends {
 
 ghost use Rattle.std.specs.Prelude.{◌*◌, ◌^◌};
 ghost use Rattle.cts_model.specs.Vocabulary.{IsBelow, IsMultipleOf};
-ghost use Rattle.tilted_rect.specs.Corners.{IsSide};
-ghost use Rattle.merge_up.specs.Distances.{IsStep};
 ghost use Rattle.merge_up.specs.Sides.{IsEnd, pair_of};
-
-// How far a sink is to a side, by its coordinate towards that side.
-fn end_at(register: u32, at: i128, offset: i128) -> End
-    requires at { IsStep at }
-    requires offset { IsStep offset }
-    ensures sink { result.sink ≡ register }
-    ensures far { result.far ≡ at +ℤ offset }
-{
-    End {
-        sink: register,
-        far: at + offset,
-    }
-}
 
 // The further of two.
 fn further(one: End, other: End) -> End
@@ -133,26 +110,6 @@ fn spread(high: End, low: End) -> i128
     ensures multiple { IsMultipleOf 8 result }
 {
     high.far + low.far
-}
-
-// The least coordinate at which a node with that reach is near enough to the far end.
-fn low_side(end: End, reach: i128) -> i128
-    requires below { IsBelow (2 * 10 ^ 31) reach }
-    requires multiple { IsMultipleOf 4 reach }
-    ensures value { result ≡ end.far -ℤ reach }
-    ensures side { IsSide result }
-{
-    end.far - reach
-}
-
-// And the greatest, on the other side.
-fn high_side(end: End, reach: i128) -> i128
-    requires below { IsBelow (2 * 10 ^ 31) reach }
-    requires multiple { IsMultipleOf 4 reach }
-    ensures value { result ≡ neg_ℤ end.far +ℤ reach }
-    ensures side { IsSide result }
-{
-    reach - end.far
 }
 
 // The lower number first.

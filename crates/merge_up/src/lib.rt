@@ -4,7 +4,7 @@
 mod bottom_up;
 mod end;
 mod ends;
-mod search;
+mod nodes;
 mod side;
 mod work;
 

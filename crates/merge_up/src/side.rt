@@ -1,8 +1,9 @@
-ghost use Rattle.std.specs.Prelude.{◌≡◌, ℤ, ◌+ℤ◌, ◌-ℤ◌};
+ghost use Rattle.std.specs.Prelude.{◌≡◌};
 ghost use Rattle.cts_model.specs.Vocabulary.{IsTreeSink};
-ghost use Rattle.merge_up.specs.Distances.{IsFar, IsStep};
+ghost use Rattle.merge_up.specs.Distances.{IsFar};
 ghost use Rattle.merge_up.specs.Sides.{far_to, furthest_to};
 
+use crate::end::End;
 use crate::ends::Ends;
 use cts_model::Sink;
 use tilted_rect::Rect;
@@ -17,16 +18,29 @@ pub(crate) enum Side {
 }
 
 impl Side {
+    /// A sink as the end of itself alone to this side.
+    pub(crate) fn end_of(self, register: u32, sink: Sink) -> End
+        requires { IsTreeSink sink }
+        ensures sink { result.sink ≡ register }
+        ensures far { result.far ≡ far_to self sink }
+    {
+        End {
+            sink: register,
+            far: self.far(sink),
+        }
+    }
+
     /// How far a sink is to this side, with its offset.
     pub(crate) fn far(self, sink: Sink) -> i128
         requires { IsTreeSink sink }
-        ensures { result ≡ far_to self sink }
+        ensures value { result ≡ far_to self sink }
+        ensures far { IsFar result }
     {
         match self {
-            Side::HighU => ahead(sink.at.u, sink.offset),
-            Side::LowU => back(sink.at.u, sink.offset),
-            Side::HighV => ahead(sink.at.v, sink.offset),
-            Side::LowV => back(sink.at.v, sink.offset),
+            Side::HighU => sink.at.u + sink.offset,
+            Side::LowU => sink.offset - sink.at.u,
+            Side::HighV => sink.at.v + sink.offset,
+            Side::LowV => sink.offset - sink.at.v,
         }
     }
 
@@ -52,20 +66,4 @@ impl Side {
             Side::LowV => ends.low_v.sink,
         }
     }
-}
-
-fn ahead(at: i128, offset: i128) -> i128
-    requires at { IsStep at }
-    requires offset { IsStep offset }
-    ensures { result ≡ at +ℤ offset }
-{
-    at + offset
-}
-
-fn back(at: i128, offset: i128) -> i128
-    requires at { IsStep at }
-    requires offset { IsStep offset }
-    ensures { result ≡ offset -ℤ at }
-{
-    offset - at
 }

@@ -1,9 +1,7 @@
-ghost use Rattle.std.specs.Prelude.{◌≡◌, ◌≤◌, ◌<◌, ◌+◌, ◌*◌, ◌-◌, ◌^◌, ℕ, List, length, IfOk, IsSomeAnd, slice_get, Some};
+ghost use Rattle.std.specs.Prelude.{◌≡◌, ◌≤◌, ◌<◌, ◌+◌, ◌*◌, ◌-◌, ◌^◌, List, length, IfOk, IsSomeAnd, slice_get, Some};
 
-use crate::end::End;
 use crate::ends::Ends;
-use crate::search::find;
-use crate::side::Side;
+use crate::nodes::Nodes;
 use cts_base::{Listed, NoMemory};
 use cts_model::{Point, Show, Sink, Topology, Tree, Uv};
 use std::alloc::Global;
@@ -47,8 +45,8 @@ impl Work {
     ghost use Rattle.cts_model.specs.declared.tree.Merge.{Merge};
     ghost use Rattle.cts_model.specs.Vocabulary.{IsUvBelow, IsUvMultipleOf, AreTreeSinks, IsTreeSink, IsTopology, numbers_below};
     ghost use Rattle.tilted_rect.specs.Rects.{Holds};
-    ghost use Rattle.merge_up.specs.Merging.{HoldsJoined, HoldsMerge, HoldsSinks, KeepsEnds, KeepsJoined, IsFresh, IsRenewed, IsSinkSet, IsNodeSettled, IsSourcePlaced, IsUnsettled};
-    ghost use Rattle.merge_up.specs.Sides.{AreEnds, IsEnd, far_to};
+    ghost use Rattle.merge_up.specs.Merging.{HoldsJoined, IsFresh, IsRenewed, IsSinkSet, IsNodeSettled, IsSourcePlaced};
+    ghost use Rattle.merge_up.specs.Sides.{AreEnds};
     ghost use Rattle.merge_up.specs.Views.{cut};
     ghost use Rattle.merge_up.specs.Works.{IsFit, IsSettled};
 
@@ -73,7 +71,7 @@ impl Work {
             ends: Listed::from_vec(vec![in alloc; Ends::of(0, sink); sinks - 1]?),
             shows: Listed::from_vec(vec![in alloc; Show::Root; sinks]?),
             settled: vec![in alloc; false; 2 * sinks]?,
-            tree: tree_with_room(alloc, sinks)?,
+            tree: tree_with_room(alloc, 2 * sinks)?,
             renewals: 0,
         })
     }
@@ -191,127 +189,45 @@ impl Work {
             self.old self.new }
     {
         let place = node as usize - sinks.len();
-        let merge = topology.merges.as_slice()[place];
-        let first = self.found_ends(sinks, topology, merge.first);
-        let second = self.found_ends(sinks, topology, merge.second);
+        let merges = topology.merges.as_slice();
+        let nodes = Nodes {
+            sinks,
+            merges,
+            work: self,
+        };
+        let merge = merges[place];
+        let first = nodes.found_ends(merge.first);
+        let second = nodes.found_ends(merge.second);
         self.hold(place, first.joined(second));
     }
 
-    /// Makes the next merge of a topology, by the furthest sinks that are kept of those before it.
-    pub(crate) fn make(&mut self, sinks: &[Sink], topology: &Topology, node: u32)
-        requires sinks { AreTreeSinks sinks.now }
-        requires topology { IsTopology (length sinks.now) topology.now.merges }
-        requires count { self.old.sinks ≡ length sinks.now }
-        requires merge { length sinks.now ≤ node }
-        requires made { node < length sinks.now + length topology.now.merges }
-        requires kept { KeepsJoined sinks.now topology.now.merges self.old node }
-        ensures { IsRenewed sinks.now topology.now.merges (node - length sinks.now)
-            self.old self.new }
-    {
-        let place = node as usize - sinks.len();
-        let merge = topology.merges.as_slice()[place];
-        let first = self.kept_ends(sinks, merge.first);
-        let second = self.kept_ends(sinks, merge.second);
-        self.hold(place, first.joined(second));
-    }
-
-    // Holds of a merge what its furthest sinks say.
-    fn hold(&mut self, place: usize, ends: Ends)
+    /// Holds of a merge what its furthest sinks say.
+    pub(crate) fn hold(&mut self, place: usize, ends: Ends)
         requires { place + 1 < self.old.sinks }
         ensures { (sinks : List Sink) (merges : List Merge) → self.old.sinks ≡ length sinks
             → AreEnds sinks (numbers_below (length sinks) merges (length sinks + place)) ends
             → IsRenewed sinks merges place self.old self.new }
     {
         let node = self.sinks + place;
-        let reach = ends.reach();
+        let (reach, region) = ends.reach_and_region();
         self.tree.reach.set(node, reach);
-        self.regions.set(node, ends.region(reach));
+        self.regions.set(node, region);
         self.ends.set(place, ends);
         self.shows.set(place, ends.show());
         self.settled.fill(false);
         self.renewals = self.renewals.saturating_add(1);
     }
 
-    // The furthest sinks of a node, by its region and its reach.
-    fn found_ends(&self, sinks: &[Sink], topology: &Topology, node: u32) -> Ends
-        requires sinks { AreTreeSinks sinks.now }
-        requires topology { IsTopology (length sinks.now) topology.now.merges }
-        requires count { self.now.sinks ≡ length sinks.now }
-        requires node { node < 2 * length sinks.now - 1 }
-        requires held { (place : ℕ) → node ≡ length sinks.now + place
-            → HoldsMerge sinks.now topology.now.merges self.now place }
-        ensures { AreEnds sinks.now (numbers_below (length sinks.now) topology.now.merges node)
-            result }
+    /// The furthest sinks that are kept of each merge.
+    pub(crate) fn kept(&self) -> &[Ends]
+        ensures value { result.now ≡ self.now.ends }
+        ensures fit { IsFit self.now }
     {
-        if (node as usize) < sinks.len() {
-            return Ends::of(node, sinks[node as usize]);
-        }
-        Ends {
-            high_u: self.found_end(sinks, topology, node, Side::HighU),
-            low_u: self.found_end(sinks, topology, node, Side::LowU),
-            high_v: self.found_end(sinks, topology, node, Side::HighV),
-            low_v: self.found_end(sinks, topology, node, Side::LowV),
-        }
+        self.ends.as_slice()
     }
 
-    // The furthest sink of a merge to a side.
-    fn found_end(&self, sinks: &[Sink], topology: &Topology, node: u32, side: Side) -> End
-        requires sinks { AreTreeSinks sinks.now }
-        requires topology { IsTopology (length sinks.now) topology.now.merges }
-        requires count { self.now.sinks ≡ length sinks.now }
-        requires merge { length sinks.now ≤ node }
-        requires made { node < 2 * length sinks.now - 1 }
-        requires held { HoldsMerge sinks.now topology.now.merges self.now
-            (node - length sinks.now) }
-        ensures { IsEnd sinks.now (numbers_below (length sinks.now) topology.now.merges node)
-            (far_to side) result }
-    {
-        let far = side.furthest(self.region(node), self.reach(node));
-        let merges = topology.merges.as_slice();
-        let found = find(sinks, merges, self.ends.as_slice(), side, far, node);
-        End {
-            sink: found.unwrap(),
-            far,
-        }
-    }
-
-    // The furthest sinks of a node, as they are kept.
-    fn kept_ends(&self, sinks: &[Sink], node: u32) -> Ends
-        requires sinks { AreTreeSinks sinks.now }
-        requires count { self.now.sinks ≡ length sinks.now }
-        requires node { node < 2 * length sinks.now - 1 }
-        ensures { (merges : List Merge)
-            → ((place : ℕ) → node ≡ length sinks.now + place
-            → KeepsEnds sinks.now merges self.now place)
-            → AreEnds sinks.now (numbers_below (length sinks.now) merges node) result }
-    {
-        let node_place = node as usize;
-        if node_place < sinks.len() {
-            Ends::of(node, sinks[node_place])
-        } else {
-            self.ends.as_slice()[node_place - sinks.len()]
-        }
-    }
-
-    /// Holds the sinks, and none of the tree of the last merge.
-    pub(crate) fn begin(&mut self, sinks: &[Sink])
-        requires sinks { AreTreeSinks sinks.now }
-        requires room { length sinks.now ≤ self.old.room }
-        ensures room { self.new.room ≡ self.old.room }
-        ensures count { self.new.sinks ≡ length sinks.now }
-        ensures renewals { self.new.renewals ≡ self.old.renewals }
-        ensures fit { IsFit self.new }
-        ensures held { HoldsSinks sinks.now self.new }
-        ensures settled { IsUnsettled self.new }
-    {
-        self.count(sinks.len());
-        for register in 0..sinks.len() {
-            self.set_sink(register as u32, sinks[register]);
-        }
-    }
-
-    // From here on the lists are of the nodes over that many sinks.
-    fn count(&mut self, sinks: usize)
+    /// From here on the lists are of the nodes over that many sinks.
+    pub(crate) fn begin(&mut self, sinks: usize)
         requires { sinks ≤ self.old.room }
         ensures room { self.new.room ≡ self.old.room }
         ensures count { self.new.sinks ≡ sinks }
@@ -322,17 +238,16 @@ impl Work {
     }
 }
 
-// The lists of a tree over so many sinks.
-fn tree_with_room(alloc: Global, sinks: usize) -> Result<Tree, NoMemory>
-    requires few { sinks ≤ 4097 }
-    requires some { 1 ≤ sinks }
-    ensures reaches { IfOk result (λ tree. length tree.reach ≡ 2 * sinks) }
-    ensures places { IfOk result (λ tree. length tree.place ≡ 2 * sinks) }
-    ensures lengths { IfOk result (λ tree. length tree.length + 1 ≡ 2 * sinks) }
+// The lists of a tree over so many nodes, the source among them.
+fn tree_with_room(alloc: Global, nodes: usize) -> Result<Tree, NoMemory>
+    requires { 1 ≤ nodes }
+    ensures reaches { IfOk result (λ tree. length tree.reach ≡ nodes) }
+    ensures places { IfOk result (λ tree. length tree.place ≡ nodes) }
+    ensures lengths { IfOk result (λ tree. length tree.length + 1 ≡ nodes) }
 {
     Ok(Tree {
-        reach: Listed::from_vec(vec![in alloc; 0i128; 2 * sinks]?),
-        place: Listed::from_vec(vec![in alloc; Point { x: 0, y: 0 }; 2 * sinks]?),
-        length: Listed::from_vec(vec![in alloc; 0i128; 2 * sinks - 1]?),
+        reach: Listed::from_vec(vec![in alloc; 0i128; nodes]?),
+        place: Listed::from_vec(vec![in alloc; Point { x: 0, y: 0 }; nodes]?),
+        length: Listed::from_vec(vec![in alloc; 0i128; nodes - 1]?),
     })
 }

@@ -1,34 +1,58 @@
-use Rattle.merge_up.proofs.Vocabulary.{◌≡◌, ◌+◌, ◌-◌, length, refl, subst, arith, IsRenewed, KeepsEnds}
-use Rattle.merge_up.proofs.WorkLemmas.{joined_before, merged_next}
+use Rattle.merge_up.proofs.Vocabulary.{length, arith, numbers_below, first_made, merge_at, merge_here, second_made, slice_get-get_or, slice_get_within}
+use Rattle.merge_up.proofs.WorkLemmas.{begun_next, ends_of_merge, merged_next}
 use Rattle.merge_up.proofs.bottom_up.merge.Goals as goal
+
+pub loop-register-preserved : goal.loop-register-preserved
+loop-register-preserved c =
+    let register = c.loop-register.register in
+    begun_next c.args.sinks.now register _ c.args.work.now c.loop-register.work c.set_sink.new.self
+    (slice_get-get_or c.args.sinks.now register _ c.loop-register-test.true)
+    c.loop-register.invariant c.set_sink.ensures
 
 pub loop-place-init : goal.loop-place-init
 loop-place-init c =
-    let begun = c.begin.ensures in
+    let begun = c.loop-register.invariant in
+    let done = c.loop-register-test.false in
     record {
       room = begun.room;
       count = begun.count;
       renewals = omega (arith, begun.renewals, begun.fit.renewals);
-      of_sinks = begun.held;
+      of_sinks = λ register sink here. begun.held register sink
+          (omega (arith, done, slice_get_within c.args.sinks.now register sink here)) here;
       of_merges = λ lower before. absurd (omega (arith, before));
       kept = λ lower before. absurd (omega (arith, before));
-      settled = begun.settled;
+      settled = begun.settled (omega (arith, done, c.requires.sinks.some));
     }
 
-pub make-requires-clause-kept : goal.make-requires-clause-kept
-make-requires-clause-kept c =
-    let sinks = c.args.sinks.now in
+pub kept_ends-second-requires : goal.kept_ends-second-requires
+kept_ends-second-requires c =
     let merges = c.args.topology.now.merges in
     let place = c.loop-place.place in
-    joined_before (length sinks) merges place (KeepsEnds sinks merges c.loop-place.work)
-    c.requires.topology c.loop-place.invariant.kept (length sinks + place) refl
+    let within = rw c.as_slice-merges.ensures at c.loop-place-test.true in
+    rw c.as_slice-merges.ensures (omega (
+      arith,
+      within,
+      second_made (length c.args.sinks.now) merges c.requires.topology.each place _
+          (merge_here merges place within),
+    ))
 
 pub loop-place-preserved : goal.loop-place-preserved
 loop-place-preserved c =
     let sinks = c.args.sinks.now in
     let merges = c.args.topology.now.merges in
     let place = c.loop-place.place in
-    let same : (length sinks + place) - length sinks ≡ place = omega arith in
-    merged_next sinks merges place c.args.work.now c.loop-place.work c.make.new.self
-    c.loop-place.invariant
-    (subst (λ n. IsRenewed sinks merges n c.loop-place.work c.make.new.self) same c.make.ensures)
+    let before = c.loop-place.invariant in
+    let within = rw c.as_slice-merges.ensures at c.loop-place-test.true in
+    let merge = merge_at merges place in
+    let each = c.requires.topology.each in
+    let here = merge_here merges place within in
+    merged_next sinks merges place c.args.work.now c.loop-place.work c.hold.new.self before
+    (c.hold.ensures sinks merges before.count
+    (ends_of_merge sinks merges place c.joined.result c.requires.topology within
+    (c.joined.ensures sinks (numbers_below (length sinks) merges merge.first)
+    (numbers_below (length sinks) merges merge.second)
+    ((rw c.as_slice-merges.ensures at c.kept_ends-first.ensures) (λ lower is. before.kept lower
+    (omega (arith, is, first_made (length sinks) merges each place merge here))))
+    ((rw c.as_slice-merges.ensures at c.kept_ends-second.ensures) (λ lower is.
+    before.kept lower (omega (arith, is, second_made (length sinks) merges each place merge here))))
+    )))

@@ -1,4 +1,4 @@
-use Rattle.merge_up.proofs.Vocabulary.{◌≡◌, ◌∙◌, ◌+◌, ◌*◌, ◌<◌, take, ap, length, slice_set, subst, rules, arith, to_z-of_z, length-set, w128, numbers_below, HasExtremeSides, extremes_of, cut, state_of}
+use Rattle.merge_up.proofs.Vocabulary.{◌≡◌, ◌∙◌, ◌+◌, ◌*◌, ◌<◌, take, ap, length, slice_set, rules, arith, to_z-of_z, length-set, w128, numbers_below, cut, state_of}
 use Rattle.merge_up.proofs.WorkLemmas.{fit_state, renewed_by, take_set, take_unsettled}
 use Rattle.merge_up.proofs.work.Work.hold.Goals as goal
 
@@ -25,15 +25,14 @@ returns c = λ sinks merges same are.
     let low : place + 1 < work.sinks = rw (← c.self.view_is) at c.requires in
     let count : work.sinks ≡ length sinks = rw (← c.self.view_is) at same in
     let at : node ≡ length sinks + place = ap (λ n. n + place) count in
-    let found = c.reach-reach.result in
+    let (found, region) = c.reach_and_region-reach.result in
     let reach = to_z-of_z w128 found (search rules) in
     let reaches = take_set (2 * work.sinks) work.tree.reach found (omega (arith, low))
     (c.set.ensures ∙ ap (slice_set work.tree.reach node) reach)
     ∙ ap (λ n. slice_set (take (2 * work.sinks) work.tree.reach) n found) at in
-    let regions = c.set-2.ensures ∙ ap (λ n. slice_set work.regions n c.region.result) at in
+    let regions = c.set-2.ensures ∙ ap (λ n. slice_set work.regions n region) at in
     rw (← c.self.view_is) (renewed_by sinks merges place (state_of work) _ ends found
-    c.region.result c.show.result (fit_state _ (invariant_of-self c))
-    (fit_state work has) count low
+    region c.show.result (fit_state _ (invariant_of-self c)) (fit_state work has) count low
     (λ i. record (state_of work) {
       room = (ap length c.set-4.ensures ∙ length-set work.shows place c.show.result) i;
       tree = record (cut work.sinks work.tree) { reach = reaches i };
@@ -45,7 +44,6 @@ returns c = λ sinks merges same are.
           i;
       renewals = c.saturating_add-self-inside.ensures i;
     })
-    are c.reach-reach.ensures.twice
-    (subst (HasExtremeSides c.region.result (extremes_of ends)) reach c.region.ensures)
+    are c.reach_and_region-reach.ensures.twice c.reach_and_region-reach.ensures.region
     (c.show.ensures sinks (numbers_below (length sinks) merges (length sinks + place)) found are
-    c.reach-reach.ensures.twice))
+    c.reach_and_region-reach.ensures.twice))
