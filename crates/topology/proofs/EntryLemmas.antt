@@ -1,5 +1,6 @@
 -- The clusters of the nodes, under their keys and at their places.
 use Rattle.topology.proofs.Vocabulary.{◌≡◌, ℕ, ◌<◌, Option, Some, None, get_or, length, pos, refl, sym, ap, subst, ◌∙◌, slice_get, slice_index_or, IsSome, IsSomeAnd, option_and_then, option_map, option_map_or, get_or_default, slice_get-get_or, slice_get_within, get, Cluster, Entry, Live, low_on, HasCluster, IsOrdered, IsUnder, IsUnjoined, cluster_of, entry_at, low_at, node_at}
+use Rattle.std.proofs.Math.Logic.{∥∥₁_map}
 
 -- ---- under a key
 
@@ -168,17 +169,15 @@ placed_within live place ordered within = slice_get_within live.keys (node_at li
 -- each node that no merge joins has a place
 pub place_there : (live : Live) (node : ℕ) (cluster : Cluster) → IsOrdered live
     → HasCluster live node cluster
-    → (place : ℕ) × (place < length live.order.items) × (node_at live place ≡ node)
+    → ∥ ((place : ℕ) × (place < length live.order.items) × (node_at live place ≡ node)) ∥₁
 place_there live node cluster ordered has =
     let found = stored live node cluster has in
-    let (place, within, here) = ordered.all node found.key found.keyed in
-    let key : slice_index_or live.order.items place 0 ≡ found.key =
-    get_or_default live.order.items place 0 found.key within ∙ here in
-    let there : entry_at live place ≡ Some found.entry =
-    ap (get live.clusters) key ∙ found.there in (
+    ∥∥₁_map (ordered.all node found.key found.keyed) (λ (place, within, here). (
       place,
       within,
-      ap (λ o. option_map_or (λ (entry : Entry). entry.node) o 0) there
+      ap (λ k. option_map_or (λ (entry : Entry). entry.node) (get live.clusters k) 0)
+          (get_or_default live.order.items place 0 found.key within ∙ here)
+          ∙ ap (λ o. option_map_or (λ (entry : Entry). entry.node) o 0) found.there
           ∙ (under_is live found.key node found.entry (ordered.keyed node found.key found.keyed)
           found.there).0,
-    )
+    ))

@@ -1,7 +1,9 @@
 -- Which clusters there are, as sinks are added and pairs are merged.
-use Rattle.topology.proofs.Vocabulary.{◌≡◌, ◌≢◌, ◌⊎◌, ℕ, ◌<◌, ◌≤◌, ◌+◌, List, [], ◌∷◌, ◌++◌, length, length-append, add-zero, get_or, take, Option, Some, None, inl, inr, refl, sym, ap, subst, ◌∙◌, arith, IsNone, IsSome, option_to_list, All, slice_get, IsPermutation, cases_eq, le-ltb, take-append-le, All-append, All-cons, All-nil, slice_get-get_or, Sink, Merge, IsCheapest, IsLive, sinks_below, Cluster, IsCluster, append_is_union, Live, Pair, merge_of, HasCluster, IsPair, IsCheapestPair, IsAdded, IsJoined, IsLeft, IsMerging, IsNearest, AreCovered, AreKept, AreLive, WereCheapest, AreFirstSinks, IsUnjoined, cluster_of, owner_of}
+use Rattle.topology.proofs.Vocabulary.{◌≡◌, ◌≢◌, ◌⊎◌, ℕ, ◌<◌, ◌≤◌, ◌+◌, List, [], ◌∷◌, ◌++◌, length, length-append, add-zero, get_or, take, Option, Some, None, inl, inr, refl, sym, ap, subst, ◌∙◌, arith, IsNone, IsSome, option_to_list, All, slice_get, IsPermutation, cases_eq, le-ltb, take-append-le, All-append, All-cons, All-nil, slice_get-get_or, Sink, Merge, IsCheapest, IsLive, sinks_below, Cluster, IsCluster, append_is_union, Live, Pair, merge_of, HasCluster, IsPair, IsCheapestPair, IsAdded, IsJoined, IsLeft, IsMerging, IsNearest, IsOrdered, AreCovered, AreKept, AreLive, WereCheapest, AreFirstSinks, IsUnjoined, cluster_of, owner_of}
 use Rattle.std.proofs.Math.ListN.{get_or-append}
+use Rattle.std.proofs.Math.Logic.{∥∥₁_elim}
 use Rattle.std.proofs.Math.Seq.{get_or-append_seam, take-append_seam}
+use Rattle.std.specs.Coded.{le_prop}
 use Rattle.cts_model.proofs.TopologyLemmas.{EachMerge, first_made, second_made, sinks_below-append, sinks_below-push, sinks_below-sink}
 use Rattle.cts_model.specs.Vocabulary.{IsUnion}
 use Rattle.topology.proofs.CoverLemmas.{search_next}
@@ -17,7 +19,6 @@ pub sink_added : (sinks : List Sink) (register : ℕ) (sink : Sink) (old new : L
     → AreFirstSinks sinks (register + 1) new
 sink_added sinks register sink old new cluster here alone held added = record {
   early = ap (λ n. n + 1) added.early ∙ held.early;
-  ordered = added.ordered;
   count = omega (arith, added.count, held.count);
   clusters = λ node found has. elim (cases_eq node (length old.keys)) [
     | inl last ↦ subst (λ c. IsCluster (sinks_below sinks [] node) c)
@@ -121,7 +122,6 @@ joins old middle last new pair one other both ordered first left second also_lef
       others = λ node not_first not_second not_made.
           added.others node (λ is. not_made (is ∙ counts))
           ∙ also_left.others node not_second ∙ left.others node not_first;
-      ordered = added.ordered;
     }
   where
     counts : length last.keys ≡ length old.keys
@@ -187,7 +187,6 @@ module _ {sinks : List Sink} {merges : List Merge} {old new : Live} {pair : Pair
     pub merged_live : EachMerge (length sinks) merges
         → AreLive sinks (merges ++ merge_of pair ∷ []) new
     merged_live each = record {
-      ordered = joined.ordered;
       count = omega (arith, joined.count, held.count, length-append merges (merge_of pair ∷ []));
       clusters = λ node cluster has. elim (still_cases node cluster has) [
         | inl (last, is) ↦ subst (λ c. IsCluster
@@ -255,9 +254,11 @@ module _ {sinks : List Sink} {merges : List Merge} {old new : Live} {pair : Pair
 
 -- while a cluster is left not all merges are made
 pub some_left : (sinks : List Sink) (merges : List Merge) (live : Live) (node : ℕ)
-    (cluster : Cluster) → AreLive sinks merges live → HasCluster live node cluster
+    (cluster : Cluster) → IsOrdered live → AreLive sinks merges live → HasCluster live node cluster
     → length merges < length sinks
-some_left sinks merges live node cluster held has = search (arith, place_there)
+some_left sinks merges live node cluster ordered held has =
+    ∥∥₁_elim (place_there live node cluster ordered has) le_prop
+    (λ (place, within, _). omega (arith, within, held.left))
 
 -- one merge more
 pub were_cheapest : (sinks : List Sink) (merges : List Merge) (merge : Merge)
@@ -276,19 +277,18 @@ were_cheapest sinks merges merge held cheapest = λ place next here.
 
 pub merging_next : (sinks : List Sink) (merges : List Merge) (old new : Live)
     (before chosen kept : List Pair) (pair : Pair) (found : Option Pair)
-    → IsMerging sinks merges old before → AreKept old chosen → IsCheapestPair old pair
+    → IsOrdered new → IsMerging sinks merges old before → AreKept old chosen → IsCheapestPair old pair
     → IsJoined old new pair → IsNearest new (length old.keys) found
     → IsPermutation (option_to_list found ++ chosen) kept
     → IsMerging sinks (merges ++ merge_of pair ∷ []) new kept
-merging_next sinks merges old new before chosen kept pair found held now cheapest joined nearest
-    moved = record {
+merging_next sinks merges old new before chosen kept pair found ordered held now cheapest joined
+    nearest moved = record {
       live = live;
-      rest = some_left sinks (merges ++ merge_of pair ∷ []) new (length old.keys) joined.both live
-          joined.made;
+      rest = some_left sinks (merges ++ merge_of pair ∷ []) new (length old.keys) joined.both
+          ordered live joined.made;
       cheapest = were_cheapest sinks merges (merge_of pair) held.cheapest
           (cheapest_is held.live pair cheapest);
       pairs = record {
-        ordered = joined.ordered;
         early = omega (arith, joined.early, joined.count, now.early);
         covered = subst (λ n. AreCovered new n kept) (sym joined.count)
             (search_next new (length old.keys) chosen kept found

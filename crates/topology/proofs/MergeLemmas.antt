@@ -1,5 +1,5 @@
 -- Each merge of the cheapest pair keeps the clusters and the merges so far right.
-use Rattle.topology.proofs.Vocabulary.{◌≡◌, ◌⊎◌, ℕ, ◌<◌, ◌≤◌, ◌+◌, List, length, ℤ, ◌+ℤ◌, ◌-ℤ◌, ◌≤ℤ◌, inl, inr, refl, sym, ap, subst, arith, cases_lt, ints, by_lt_z, Sink, Merge, IsCheaper, IsDoubleCost, IsCheapest, IsLive, IsMerge, sinks_below, Cluster, IsCluster, cost_of, append_is_union, cost_reach, one_greatest_span, Live, Pair, merge_of, HasCluster, IsPair, IsCheapestPair, AreLive, node_at}
+use Rattle.topology.proofs.Vocabulary.{◌≡◌, ◌⊎◌, ℕ, ◌<◌, ◌≤◌, ◌+◌, List, length, ℤ, ◌+ℤ◌, ◌-ℤ◌, ◌≤ℤ◌, inl, inr, refl, sym, ap, subst, arith, cases_lt, ints, by_lt_z, Sink, Merge, IsCheaper, IsDoubleCost, IsCheapest, IsLive, IsMerge, sinks_below, Cluster, IsCluster, cost_of, append_is_union, cost_reach, one_greatest_span, Live, Pair, merge_of, HasCluster, IsOrdered, IsPair, IsCheapestPair, AreLive, node_at}
 use Rattle.topology.proofs.EntryLemmas.{entry_is, entry_there, has_unjoined, low_is, unjoined_there}
 
 -- ---- the cheapest pair is the cheapest merge
@@ -120,9 +120,9 @@ module _ {sinks : List Sink} {merges : List Merge} {live : Live}
 
 -- ---- while two clusters are left there is a pair
 
-pub pair_there : (sinks : List Sink) (merges : List Merge) (live : Live) → AreLive sinks merges live
-    → length merges + 2 ≤ length sinks → (pair : Pair) × IsPair live pair
-pair_there sinks merges live held two =
+pub pair_there : (sinks : List Sink) (merges : List Merge) (live : Live) → IsOrdered live
+    → AreLive sinks merges live → length merges + 2 ≤ length sinks → (pair : Pair) × IsPair live pair
+pair_there sinks merges live ordered held two =
     let (one, has) = has_at 0 (omega (arith, two, held.left)) in
     let (other, other_has) = has_at 1 (omega (arith, two, held.left)) in
     elim (cases_lt (node_at live 0) (node_at live 1)) [
@@ -136,8 +136,8 @@ pair_there sinks merges live held two =
     has_at : (place : ℕ) → place < length live.order.items
         → (cluster : Cluster) × HasCluster live (node_at live place) cluster
     has_at place within =
-        let (entry, here) = entry_there live place held.ordered within in
-        let at = entry_is live place entry held.ordered within here in
+        let (entry, here) = entry_there live place ordered within in
+        let at = entry_is live place entry ordered within here in
         (entry.cluster, subst (λ n. HasCluster live n entry.cluster) (sym at.node) at.has)
 
     -- the two stand at places of their own

@@ -1,5 +1,7 @@
 -- A search for the cheapest pair that a node keeps.
 use Rattle.topology.proofs.Vocabulary.{◌≡◌, ◌↔◌, ◌⊎◌, ℕ, ◌<◌, ◌≤◌, cond, Option, Some, None, length, ℤ, pos, ◌-ℤ◌, ◌≤ℤ◌, ◌<ℤ◌, inl, inr, refl, sym, ap, subst, ◌∙◌, ◌^◌, FitsSigned, arith, int_max, w128, nat_lt, IsSomeAnd, cases_lt, lt-ltb, le-ltb, ints, clamps, IsBelow, Cluster, cost_of, gap_of, Axis, U, V, Reach, Live, Pair, high_on, low_on, IsBefore, IsAtMost, IsCheaperOf, HasCluster, IsPair, IsKept, IsKeptWith, IsLooked, IsNearest, IsOrdered, IsPast, cluster_of, low_at, node_at, owner_of, other_of}
+use Rattle.std.proofs.Math.Logic.{∥∥₁_elim}
+use Rattle.std.proofs.Props.{props}
 use Rattle.tilted_rect.specs.Intervals.{between}
 use Rattle.topology.proofs.EntryLemmas.{low_is, one_cluster, place_there}
 
@@ -342,15 +344,12 @@ looked_both live owner from middle found ordered up down = record {
   bound = λ pair held.
       let node = other_of live.early pair in
       let (cluster, has) = other_has live owner pair held in
-      let (place, below, here) = place_there live node cluster ordered has in
-      let with_it : IsKeptWith live owner (node_at live place) pair = record {
-        kept = held;
-        other = sym here;
-      } in
-      elim (cases_lt place from) [
-        | inl before ↦ down.bound place pair before below with_it
-        | inr behind ↦ down.stays pair (up.bound place pair behind below with_it)
-      ];
+      ∥∥₁_elim (place_there live node cluster ordered has) (hlevel props)
+      (λ (place, below, here). elim (cases_lt place from) [
+        | inl before ↦ down.bound place pair before below (record { kept = held; other = sym here })
+        | inr behind ↦ down.stays pair (up.bound place pair behind below
+            (record { kept = held; other = sym here }))
+      ]);
   there = λ pair is. elim (down.there pair is) [
     | inl was ↦ elim (up.there pair was) [
       | inl none ↦ absurd (cc)

@@ -59,12 +59,12 @@ owner_first live pair ordered early is = search (arith, owner_ahead, node_within
 
 -- a pair of the node that costs nothing is the cheapest of all
 pub free_is_cheapest : (sinks : List Sink) (merges : List Merge) (live : Live) (kept : List Pair)
-    (node : ℕ) (pair : Pair) → IsSwept sinks merges live kept node
+    (node : ℕ) (pair : Pair) → IsOrdered live → IsSwept sinks merges live kept node
     → IsNearest live node (Some pair) → pair.cost ≡ pos 0 → IsCheapestPair live pair
-free_is_cheapest sinks merges live kept node pair held nearest free = record {
+free_is_cheapest sinks merges live kept node pair ordered held nearest free = record {
   pair = own.pair;
   least = λ other is before.
-      let first = owner_first live other held.live.ordered held.early is in
+      let first = owner_first live other ordered held.early is in
       elim (cases_lt other.first node) [
         | inl below ↦
             let found = held.covered other is (omega (arith, first, below)) in
@@ -75,7 +75,7 @@ free_is_cheapest sinks merges live kept node pair held nearest free = record {
                 arith,
                 behind,
                 own.owner,
-                owner_first live pair held.live.ordered held.early own.pair,
+                owner_first live pair ordered held.early own.pair,
               ))
           | inr to ↦ nearest.bound other
               (record { pair = is; owner = first ∙ omega (arith, from, to) }) before
@@ -99,23 +99,24 @@ free_is_cheapest sinks merges live kept node pair held nearest free = record {
 
 -- it is merged, and the nodes before it are as far from the node made as from the first of the two
 pub sweep_merges : (sinks : List Sink) (merges : List Merge) (old new : Live) (kept : List Pair)
-    (node : ℕ) (pair : Pair) → IsSwept sinks merges old kept node
+    (node : ℕ) (pair : Pair) → IsOrdered old → IsOrdered new → IsSwept sinks merges old kept node
     → IsNearest old node (Some pair) → pair.cost ≡ pos 0 → IsJoined old new pair
     → IsSwept sinks (merges ++ merge_of pair ∷ []) new kept (node + 1)
-sweep_merges sinks merges old new kept node pair held nearest free joined = record {
-  live = live;
-  rest = some_left sinks (merges ++ merge_of pair ∷ []) new (length old.keys) joined.both live
-      joined.made;
-  cheapest = were_cheapest sinks merges (merge_of pair) held.cheapest
-      (cheapest_is held.live pair cheapest);
-  early = early;
-  costly = held.costly;
-  made = λ other among. omega (arith, held.made other among, joined.count);
-  covered = covered;
-}
+sweep_merges sinks merges old new kept node pair ordered still_ordered held nearest free joined =
+    record {
+      live = live;
+      rest = some_left sinks (merges ++ merge_of pair ∷ []) new (length old.keys) joined.both
+          still_ordered live joined.made;
+      cheapest = were_cheapest sinks merges (merge_of pair) held.cheapest
+          (cheapest_is held.live pair cheapest);
+      early = early;
+      costly = held.costly;
+      made = λ other among. omega (arith, held.made other among, joined.count);
+      covered = covered;
+    }
   where
     cheapest : IsCheapestPair old pair
-    cheapest = free_is_cheapest sinks merges old kept node pair held nearest free
+    cheapest = free_is_cheapest sinks merges old kept node pair ordered held nearest free
 
     live : AreLive sinks (merges ++ merge_of pair ∷ []) new
     live = merged_live held.live joined cheapest.pair
@@ -125,7 +126,7 @@ sweep_merges sinks merges old new kept node pair held nearest free joined = reco
     early = ap (λ n. n + 1) joined.early ∙ held.early
 
     first_is : pair.first ≡ node
-    first_is = sym (owner_first old pair held.live.ordered held.early cheapest.pair)
+    first_is = sym (owner_first old pair ordered held.early cheapest.pair)
         ∙ (nearest.there pair refl).owner
 
     -- what the two cost
@@ -177,21 +178,21 @@ sweep_merges sinks merges old new kept node pair held nearest free joined = reco
     covers : (other was : Pair) → IsPair new other → IsPair old was → was.first ≡ other.first
         → other.first < node → ¬ IsBefore other was → IsCovered new.early kept other
     covers other was is is_was first below not_before =
-        let was_first = owner_first old was held.live.ordered held.early is_was in
+        let was_first = owner_first old was ordered held.early is_was in
         let found = held.covered was is_was (omega (arith, was_first, first, below)) in
         record {
           least = found.least;
           among = found.among;
           owner = subst (λ n. owner_of n found.least ≡ other.first) (sym joined.early)
               (found.owner ∙ was_first ∙ first)
-              ∙ sym (owner_first new other joined.ordered early is);
+              ∙ sym (owner_first new other still_ordered early is);
           at_most = λ before. before_along other was found.least before found.at_most not_before;
         }
 
     covered : (other : Pair) → IsPair new other → owner_of new.early other < node + 1
         → IsCovered new.early kept other
     covered other is below =
-        let first = owner_first new other joined.ordered early is in
+        let first = owner_first new other still_ordered early is in
         elim (still_cases held.live joined other.first is.one is.first) [
           | inl (last, _) ↦ absurd (omega (
             arith,
@@ -286,11 +287,10 @@ settled live = record {
 }
 
 pub sweep_ends : (sinks : List Sink) (merges : List Merge) (live : Live) (kept : List Pair)
-    (node : ℕ) → IsSwept sinks merges live kept node → length live.keys ≤ node
+    (node : ℕ) → IsOrdered live → IsSwept sinks merges live kept node → length live.keys ≤ node
     → IsMerging sinks merges (settled live) kept
-sweep_ends sinks merges live kept node held ends = record {
+sweep_ends sinks merges live kept node ordered held ends = record {
   live = record {
-    ordered = ordered;
     count = held.live.count;
     clusters = held.live.clusters;
     unjoined = held.live.unjoined;
@@ -298,21 +298,9 @@ sweep_ends sinks merges live kept node held ends = record {
   };
   rest = held.rest;
   cheapest = held.cheapest;
-  pairs = record { ordered = ordered; early = omega arith; covered = λ pair is _. covered pair is };
+  pairs = record { early = omega arith; covered = λ pair is _. covered pair is };
 }
   where
-    ordered : IsOrdered (settled live)
-    ordered = record {
-      few = held.live.ordered.few;
-      keyed = held.live.ordered.keyed;
-      placed = held.live.ordered.placed;
-      all = held.live.ordered.all;
-      ascending = held.live.ordered.ascending;
-      numbered = held.live.ordered.numbered;
-      below = held.live.ordered.below;
-      wide = held.live.ordered.wide;
-    }
-
     covered : (pair : Pair) → IsPair (settled live) pair → IsCovered (length live.keys) kept pair
     covered pair is =
         let was : IsPair live pair = record {
@@ -324,7 +312,7 @@ sweep_ends sinks merges live kept node held ends = record {
           cost = is.cost;
         } in
         let within = node_within live pair.second is.other is.second in
-        let first = owner_first live pair held.live.ordered held.early was in
+        let first = owner_first live pair ordered held.early was in
         let found = held.covered pair was (omega (arith, first, within, is.ordered, ends)) in
         let made = held.made found.least found.among in
         record {
@@ -332,7 +320,7 @@ sweep_ends sinks merges live kept node held ends = record {
           among = found.among;
           owner = (owner_ahead (length live.keys) found.least made).0
               ∙ sym (owner_ahead live.early found.least
-              (omega (arith, made, held.live.ordered.few, held.early))).0
+              (omega (arith, made, ordered.few, held.early))).0
               ∙ found.owner ∙ first ∙ sym (owner_ahead (length live.keys) pair within).0;
           at_most = found.at_most;
         }

@@ -90,7 +90,7 @@ pub record IsOrdered (live : Live) : Type 0 where
   pub placed : (place : ℕ) → place < length live.order.items
       → IsUnder live (slice_index_or live.order.items place 0) (node_at live place)
   pub all : (node key : ℕ) → slice_get live.keys node ≡ Some (Some key)
-      → Contains live.order.items key
+      → ∥ Contains live.order.items key ∥₁
   pub ascending : (place later : ℕ) → place ≤ later → later < length live.order.items
       → low_at live place ≤ℤ low_at live later
   pub numbered : (place later : ℕ) → place < later → later < length live.order.items
@@ -134,7 +134,6 @@ AreCovered live from kept = (pair : Pair) → IsPair live pair → owner_of live
 
 -- so it is for each pair
 pub record AreKept (live : Live) (kept : List Pair) : Type 0 where
-  pub ordered : IsOrdered live
   pub early : live.early ≤ length live.keys
   pub covered : AreCovered live (length live.keys) kept
 
@@ -156,7 +155,6 @@ pub record IsAdded (old new : Live) (cluster : Cluster) : Type 0 where
   pub left : length new.order.items ≡ length old.order.items + 1
   pub made : HasCluster new (length old.keys) cluster
   pub others : (node : ℕ) → node ≢ length old.keys → cluster_of new node ≡ cluster_of old node
-  pub ordered : IsOrdered new
 
 -- a merge joins that node
 pub record IsLeft (old new : Live) (node : ℕ) : Type 0 where
@@ -165,7 +163,6 @@ pub record IsLeft (old new : Live) (node : ℕ) : Type 0 where
   pub left : length new.order.items + 1 ≡ length old.order.items
   pub gone : cluster_of new node ≡ None
   pub others : (other : ℕ) → other ≢ node → cluster_of new other ≡ cluster_of old other
-  pub ordered : IsOrdered new
 
 -- the two clusters of a pair are merged into one of a node more
 pub record IsJoined (old new : Live) (pair : Pair) : Type 0 where
@@ -184,13 +181,11 @@ pub record IsJoined (old new : Live) (pair : Pair) : Type 0 where
   pub second_gone : cluster_of new pair.second ≡ None
   pub others : (node : ℕ) → node ≢ pair.first → node ≢ pair.second → node ≢ length old.keys
       → cluster_of new node ≡ cluster_of old node
-  pub ordered : IsOrdered new
 
 -- ---- what the clusters are
 
 -- each cluster is that of the sinks below its node, and those that no merge joins are live
 pub record AreLive (sinks : List Sink) (merges : List Merge) (live : Live) : Type 0 where
-  pub ordered : IsOrdered live
   pub count : length live.keys ≡ length sinks + length merges
   pub clusters : (node : ℕ) (cluster : Cluster) → HasCluster live node cluster
       → IsCluster (sinks_below sinks merges node) cluster
@@ -200,7 +195,6 @@ pub record AreLive (sinks : List Sink) (merges : List Merge) (live : Live) : Typ
 -- so many of the first sinks have their clusters
 pub record AreFirstSinks (sinks : List Sink) (register : ℕ) (live : Live) : Type 0 where
   pub early : live.early + 1 ≡ 2 ^ 32
-  pub ordered : IsOrdered live
   pub count : length live.keys ≡ register
   pub clusters : (node : ℕ) (cluster : Cluster) → HasCluster live node cluster
       → IsCluster (sinks_below sinks [] node) cluster

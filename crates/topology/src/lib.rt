@@ -4,6 +4,7 @@
 mod axis;
 mod live;
 mod merging;
+mod ordered;
 mod pair;
 mod queue;
 

@@ -1,11 +1,11 @@
-ghost use Rattle.std.specs.Prelude.{◌≡◌, ◌+◌, ◌<◌, ◌^◌, List, [], length, IfOk, IfSome, IsNone, OnOk};
+ghost use Rattle.std.specs.Prelude.{◌≡◌, ◌+◌, ◌<◌, ◌^◌, List, [], length, IfOk, IfSome, IsNone};
 ghost use Rattle.cts_model.specs.declared.place.Sink.{Sink};
 ghost use Rattle.cts_model.specs.Vocabulary.{IsGreedy, AreTreeSinks};
 ghost use Rattle.topology.specs.declared.pair.Pair.{Pair};
-ghost use Rattle.topology.specs.LiveClusters.{AreKept, AreLive, IsCheapestPair, IsMerging, IsOrdered, IsPair, IsSwept};
+ghost use Rattle.topology.specs.LiveClusters.{AreKept, AreLive, IsCheapestPair, IsMerging, IsPair, IsSwept};
 
 use crate::axis::Axis;
-use crate::live::Live;
+use crate::ordered::Ordered;
 use crate::pair::{Pair, costs_nothing};
 use crate::queue::Queue;
 use cts_base::{Listed, NoMemory};
@@ -33,21 +33,21 @@ pub fn greedy(alloc: Global, sinks: &[Sink]) -> Result<Topology, NoMemory>
     for _merge in merges.len() + 1..sinks.len() {
         let pair = cheapest(&live, &mut queue).unwrap();
         merges.push(pair.merge())?;
-        live.join(&pair)?;
+        live = live.join(&pair)?;
         queue.push_found(live.nearest(live.count() - 1))?;
     }
     Ok(Topology { merges })
 }
 
 // The clusters of the sinks, each alone.
-fn sink_clusters(alloc: Global, sinks: &[Sink]) -> Result<Live, NoMemory>
+fn sink_clusters(alloc: Global, sinks: &[Sink]) -> Result<Ordered, NoMemory>
     requires { AreTreeSinks sinks.now }
-    ensures early { IfOk result (λ live. live.early + 1 ≡ 2 ^ 32) }
-    ensures live { IfOk result (AreLive sinks.now []) }
+    ensures early { IfOk result (λ live. live.live.early + 1 ≡ 2 ^ 32) }
+    ensures live { IfOk result (λ live. AreLive sinks.now [] live.live) }
 {
-    let mut live = Live::new(alloc, Axis::sparsest(sinks));
+    let mut live = Ordered::new(alloc, Axis::sparsest(sinks));
     for sink in sinks {
-        live.add(Cluster::of(*sink))?;
+        live = live.add(Cluster::of(*sink))?;
     }
     Ok(live)
 }
@@ -59,60 +59,58 @@ fn swept(
     sinks: &[Sink],
     queue: &mut Queue,
     merges: &mut Listed<Merge>,
-) -> Result<Live, NoMemory>
+) -> Result<Ordered, NoMemory>
     requires sinks { AreTreeSinks sinks.now }
     requires queue { queue.old ≡ [] }
     requires merges { merges.old ≡ [] }
-    ensures { IfOk result (λ live. IsMerging sinks.now merges.new live queue.new) }
+    ensures { IfOk result (λ live. IsMerging sinks.now merges.new live.live queue.new) }
 {
     let mut live = sink_clusters(alloc, sinks)?;
     let mut node = 0;
     while node < live.count() {
-        sweep(&mut live, queue, merges, node)?;
+        live = sweep(live, queue, merges, node)?;
         node += 1;
     }
-    live.early = live.count();
+    live.live.early = live.count();
     Ok(live)
 }
 
 // Merges a node with the first later one where that costs nothing, and else keeps its cheapest
 // pair.
 fn sweep(
-    live: &mut Live,
+    live: Ordered,
     queue: &mut Queue,
     merges: &mut Listed<Merge>,
     node: u32,
-) -> Result<(), NoMemory>
-    requires ordered { IsOrdered live.old }
-    requires few { length live.old.keys + 1 < 2 ^ 32 }
-    ensures { OnOk result ((sinks : List Sink)
-        → IsSwept sinks merges.old live.old queue.old node
-        → IsSwept sinks merges.new live.new queue.new (node + 1)) }
+) -> Result<Ordered, NoMemory>
+    requires { length live.live.keys + 1 < 2 ^ 32 }
+    ensures { IfOk result (λ next. (sinks : List Sink)
+        → IsSwept sinks merges.old live.live queue.old node
+        → IsSwept sinks merges.new next.live queue.new (node + 1)) }
 {
     let found = live.nearest(node);
     if !costs_nothing(&found) {
         queue.push_found(found)?;
-        return Ok(());
+        return Ok(live);
     }
     let pair = found.unwrap();
     merges.push(pair.merge())?;
-    live.join(&pair)?;
-    Ok(())
+    live.join(&pair)
 }
 
 // The pair that is to be merged next. Pairs that were broken up by a merge are renewed where they
 // come first.
-fn cheapest(live: &Live, queue: &mut Queue) -> Option<Pair>
-    requires { AreKept live.now queue.old }
-    ensures found { IfSome result (IsCheapestPair live.now) }
-    ensures none { IsNone result → (pair : Pair) → ¬ IsPair live.now pair }
-    ensures kept { AreKept live.now queue.new }
+fn cheapest(live: &Ordered, queue: &mut Queue) -> Option<Pair>
+    requires { AreKept live.now.live queue.old }
+    ensures found { IfSome result (IsCheapestPair live.now.live) }
+    ensures none { IsNone result → (pair : Pair) → ¬ IsPair live.now.live pair }
+    ensures kept { AreKept live.now.live queue.new }
 {
     while let Some(pair) = queue.first() {
-        if live.has(&pair) {
+        if live.live.has(&pair) {
             return Some(pair);
         }
-        queue.replace_first(live.nearest(live.owner(&pair)));
+        queue.replace_first(live.nearest(live.live.owner(&pair)));
     }
     None
 }

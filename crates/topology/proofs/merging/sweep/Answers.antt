@@ -1,10 +1,11 @@
 use Rattle.topology.proofs.Vocabulary.{◌≡◌, ◌+◌, ◌++◌, ◌∷◌, [], pos, true≢false, ap, sym, subst, ◌∙◌, IsSomeAnd, Pair, IsNearest, IsSwept}
+use Rattle.std.proofs.lemmas.Result.{IfOk-weaker}
 use Rattle.topology.proofs.SweepLemmas.{sweep_keeps, sweep_merges}
 use Rattle.topology.proofs.merging.sweep.Goals as goal
 
 pub returns-then-not-costs_nothing : goal.returns-then-not-costs_nothing
 returns-then-not-costs_nothing c = λ sinks held. sweep_keeps sinks c.args.merges.now
-    c.args.live.now c.args.queue.now c.push_found.new.self c.args.node c.nearest-found.result held
+    c.args.live.live c.args.queue.now c.push_found.new.self c.args.node c.nearest-found.result held
     c.nearest-found.ensures
     (λ free. true≢false (sym (c.costs_nothing.ensures.1 free) ∙ c.if-not-costs_nothing.true))
     c.in_ok-push_found.ensures
@@ -12,11 +13,11 @@ returns-then-not-costs_nothing c = λ sinks held. sweep_keeps sinks c.args.merge
 pub returns : goal.returns
 returns c =
     let merges = c.args.merges.now in
-    let live = c.args.live.now in
-    λ sinks held. subst (λ xs. IsSwept sinks xs c.join.new.self c.args.queue.now (c.args.node + 1))
+    let live = c.args.live.live in
+    IfOk-weaker c.join.result _ _ (λ next joined sinks held. subst (λ xs. IsSwept sinks xs next.live c.args.queue.now (c.args.node + 1))
     (sym (c.in_ok-push.ensures.ok ∙ ap (λ m. merges ++ m ∷ []) c.merge.ensures))
-    (sweep_merges sinks merges live c.join.new.self c.args.queue.now c.args.node
-    c.unwrap-pair.result held
+    (sweep_merges sinks merges live next.live c.args.queue.now c.args.node
+    c.unwrap-pair.result c.args.live.ordered next.ordered held
     (subst (IsNearest live c.args.node) c.unwrap-pair.ensures c.nearest-found.ensures)
     (subst (λ o. IsSomeAnd o (λ (pair : Pair). pair.cost ≡ pos 0)) c.unwrap-pair.ensures
-    (c.costs_nothing.ensures.0 c.if-not-costs_nothing.false)) c.in_ok-join.ensures)
+    (c.costs_nothing.ensures.0 c.if-not-costs_nothing.false)) joined)) c.join.ensures

@@ -6,14 +6,14 @@ pub loop-node-init : goal.loop-node-init
 loop-node-init c = search (arith, sweep_starts)
 
 pub loop-node-preserved : goal.loop-node-preserved
-loop-node-preserved c = c.in_ok-sweep.ensures c.args.sinks.now c.loop-node.invariant
+loop-node-preserved c = c.in_ok-live-2.ensures c.args.sinks.now c.loop-node.invariant
 
 pub loop-node-smaller : goal.loop-node-smaller
 loop-node-smaller c = search arith
 
 pub returns : goal.returns
 returns c =
-    let live = c.loop-node.live in
+    let live = c.loop-node.live.live in
     subst (λ early. IsMerging c.args.sinks.now c.loop-node.merges (record {
       early = early;
       axis = live.axis;
@@ -21,6 +21,6 @@ returns c =
       keys = live.keys;
       order = live.order;
       widest = live.widest;
-    }) c.loop-node.queue) (sym c.count-2.ensures)
+    }) c.loop-node.queue) (sym c.count-live.ensures)
     (sweep_ends c.args.sinks.now c.loop-node.merges live c.loop-node.queue c.loop-node.node
-    c.loop-node.invariant (omega (arith, c.loop-node-test.false, c.count.ensures)))
+    c.loop-node.live.ordered c.loop-node.invariant (omega (arith, c.loop-node-test.false, c.count.ensures)))

@@ -3,7 +3,7 @@ use Rattle.topology.proofs.merging.swept.Given as goal
 
 -- the nodes so far are swept
 abbrev pub invariant-loop-node : goal.invariant-loop-node
-invariant-loop-node l = IsSwept l.sinks l.merges l.live l.queue l.node
+invariant-loop-node l = IsSwept l.sinks l.merges l.live.live l.queue l.node
 
 -- there are no more nodes than the sinks and as many merges
 abbrev pub decreases-loop-node : goal.decreases-loop-node
