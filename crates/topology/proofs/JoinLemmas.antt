@@ -277,8 +277,8 @@ were_cheapest sinks merges merge held cheapest = λ place next here.
 
 pub merging_next : (sinks : List Sink) (merges : List Merge) (old new : Live)
     (before chosen kept : List Pair) (pair : Pair) (found : Option Pair)
-    → IsOrdered new → IsMerging sinks merges old before → AreKept old chosen → IsCheapestPair old pair
-    → IsJoined old new pair → IsNearest new (length old.keys) found
+    → IsOrdered new → IsMerging sinks merges old before → AreKept old chosen
+    → IsCheapestPair old pair → IsJoined old new pair → IsNearest new (length old.keys) found
     → IsPermutation (option_to_list found ++ chosen) kept
     → IsMerging sinks (merges ++ merge_of pair ∷ []) new kept
 merging_next sinks merges old new before chosen kept pair found ordered held now cheapest joined

@@ -121,7 +121,8 @@ module _ {sinks : List Sink} {merges : List Merge} {live : Live}
 -- ---- while two clusters are left there is a pair
 
 pub pair_there : (sinks : List Sink) (merges : List Merge) (live : Live) → IsOrdered live
-    → AreLive sinks merges live → length merges + 2 ≤ length sinks → (pair : Pair) × IsPair live pair
+    → AreLive sinks merges live → length merges + 2 ≤ length sinks
+    → (pair : Pair) × IsPair live pair
 pair_there sinks merges live ordered held two =
     let (one, has) = has_at 0 (omega (arith, two, held.left)) in
     let (other, other_has) = has_at 1 (omega (arith, two, held.left)) in

@@ -1,4 +1,4 @@
-ghost use Rattle.std.specs.Prelude.{◌≡◌, ◌<◌, length};
+ghost use Rattle.std.specs.Prelude.{◌≡◌};
 ghost use Rattle.cts_model.specs.Vocabulary.{IsBelow, AreTreeSinks};
 ghost use Rattle.tilted_rect.specs.Corners.{bound};
 ghost use Rattle.topology.specs.Axes.{high_on, low_on};
@@ -57,10 +57,11 @@ impl Axis {
         let step = sinks.len() / SEARCHES + 1;
         for place in 0..sinks.len() {
             if place % step == 0 {
-                let cost = least_cost(sinks, place);
-                u = u.saturating_add(Axis::U.passed(sinks, place, cost));
-                v = v.saturating_add(Axis::V.passed(sinks, place, cost));
-                reach = reach.saturating_add(Axis::Reach.passed(sinks, place, cost));
+                let cluster = Cluster::of(sinks[place]);
+                let cost = least_cost(sinks, place, &cluster);
+                u = u.saturating_add(Axis::U.passed(sinks, &cluster, cost));
+                v = v.saturating_add(Axis::V.passed(sinks, &cluster, cost));
+                reach = reach.saturating_add(Axis::Reach.passed(sinks, &cluster, cost));
             }
         }
         if reach < u.min(v) {
@@ -72,13 +73,12 @@ impl Axis {
         }
     }
 
-    // How many sinks a search passes for the one at a place: those that are nearer on the axis than
+    // How many sinks a search passes for that of a cluster: those that are nearer on the axis than
     // what the nearest costs.
-    fn passed(self, sinks: &[Sink], place: usize, cost: u128) -> u64
-        requires sinks { AreTreeSinks sinks.now }
-        requires within { place < length sinks.now }
+    fn passed(self, sinks: &[Sink], cluster: &Cluster, cost: u128) -> u64
+        requires { AreTreeSinks sinks.now }
     {
-        let from = self.low(&Cluster::of(sinks[place]));
+        let from = self.low(cluster);
         let mut passed = 0u64;
         for sink in sinks {
             if self.low(&Cluster::of(*sink)).abs_diff(from) < cost {
@@ -89,12 +89,10 @@ impl Axis {
     }
 }
 
-// The least that merging the sink at a place with another costs.
-fn least_cost(sinks: &[Sink], place: usize) -> u128
-    requires sinks { AreTreeSinks sinks.now }
-    requires within { place < length sinks.now }
+// The least that merging the sink at a place, whose cluster that is, with another costs.
+fn least_cost(sinks: &[Sink], place: usize, cluster: &Cluster) -> u128
+    requires { AreTreeSinks sinks.now }
 {
-    let cluster = Cluster::of(sinks[place]);
     let mut least = u128::MAX;
     for other in 0..sinks.len() {
         if other != place {

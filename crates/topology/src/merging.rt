@@ -2,7 +2,7 @@ ghost use Rattle.std.specs.Prelude.{◌≡◌, ◌+◌, ◌<◌, ◌^◌, List, 
 ghost use Rattle.cts_model.specs.declared.place.Sink.{Sink};
 ghost use Rattle.cts_model.specs.Vocabulary.{IsGreedy, AreTreeSinks};
 ghost use Rattle.topology.specs.declared.pair.Pair.{Pair};
-ghost use Rattle.topology.specs.LiveClusters.{AreKept, AreLive, IsCheapestPair, IsMerging, IsPair, IsSwept};
+ghost use Rattle.topology.specs.LiveClusters.{AreKept, IsCheapestPair, IsMerging, IsPair, IsSwept};
 
 use crate::axis::Axis;
 use crate::ordered::Ordered;
@@ -39,19 +39,6 @@ pub fn greedy(alloc: Global, sinks: &[Sink]) -> Result<Topology, NoMemory>
     Ok(Topology { merges })
 }
 
-// The clusters of the sinks, each alone.
-fn sink_clusters(alloc: Global, sinks: &[Sink]) -> Result<Ordered, NoMemory>
-    requires { AreTreeSinks sinks.now }
-    ensures early { IfOk result (λ live. live.live.early + 1 ≡ 2 ^ 32) }
-    ensures live { IfOk result (λ live. AreLive sinks.now [] live.live) }
-{
-    let mut live = Ordered::new(alloc, Axis::sparsest(sinks));
-    for sink in sinks {
-        live = live.add(Cluster::of(*sink))?;
-    }
-    Ok(live)
-}
-
 // The clusters that are left once all that cost nothing to merge are merged. These merges are put
 // into the list, and the cheapest pair of each node into the queue.
 fn swept(
@@ -65,7 +52,10 @@ fn swept(
     requires merges { merges.old ≡ [] }
     ensures { IfOk result (λ live. IsMerging sinks.now merges.new live.live queue.new) }
 {
-    let mut live = sink_clusters(alloc, sinks)?;
+    let mut live = Ordered::new(alloc, Axis::sparsest(sinks));
+    for sink in sinks {
+        live = live.add(Cluster::of(*sink))?;
+    }
     let mut node = 0;
     while node < live.count() {
         live = sweep(live, queue, merges, node)?;

@@ -57,8 +57,5 @@ fn comes_first(pair: &Option<Pair>, kept: &Option<Pair>) -> bool
 pub(crate) fn costs_nothing(pair: &Option<Pair>) -> bool
     ensures { IsTrue result ↔ IsSomeAnd pair.now (λ pair. pair.cost ≡ pos 0) }
 {
-    match pair {
-        Some(pair) => pair.cost == 0,
-        None => false,
-    }
+    matches!(pair, Some(pair) if pair.cost == 0)
 }

@@ -72,25 +72,13 @@ impl Queue {
         ensures { IsReplaced self.old self.new pair }
     {
         match pair {
-            Some(pair) => self.set_first(pair),
-            None => self.drop_first(),
+            Some(pair) => {
+                let mut top = self.heap.peek_mut().unwrap();
+                *top = Reverse(pair);
+            }
+            None => {
+                self.heap.pop();
+            }
         }
-    }
-
-    // Keeps another pair instead of the one that is to be merged first.
-    fn set_first(&mut self, pair: Pair)
-        requires { 0 < length self.old }
-        ensures { IsReplaced self.old self.new (Some pair) }
-    {
-        let mut top = self.heap.peek_mut().unwrap();
-        *top = Reverse(pair);
-    }
-
-    // Drops the pair that is to be merged first.
-    fn drop_first(&mut self)
-        requires { 0 < length self.old }
-        ensures { IsReplaced self.old self.new None }
-    {
-        self.heap.pop();
     }
 }

@@ -9,7 +9,8 @@ loop-merge-init c = (c.in_ok-live.ensures, omega (arith, c.len-merge.ensures))
 pub unwrap-pair-requires : goal.unwrap-pair-requires
 unwrap-pair-requires c = some_found c.loop-merge.live.live c.cheapest.result c.cheapest.ensures.none
     (pair_there c.args.sinks.now c.loop-merge.merges c.loop-merge.live.live
-    c.loop-merge.live.ordered c.loop-merge.invariant.0.live (omega (arith, c.loop-merge-test.true, c.loop-merge.invariant.1)))
+    c.loop-merge.live.ordered c.loop-merge.invariant.0.live
+    (omega (arith, c.loop-merge-test.true, c.loop-merge.invariant.1)))
 
 pub loop-merge-preserved : goal.loop-merge-preserved
 loop-merge-preserved c =

@@ -14,7 +14,8 @@ pub returns : goal.returns
 returns c =
     let merges = c.args.merges.now in
     let live = c.args.live.live in
-    IfOk-weaker c.join.result _ _ (λ next joined sinks held. subst (λ xs. IsSwept sinks xs next.live c.args.queue.now (c.args.node + 1))
+    IfOk-weaker c.join.result _ _ (λ next joined sinks held. subst
+    (λ xs. IsSwept sinks xs next.live c.args.queue.now (c.args.node + 1))
     (sym (c.in_ok-push.ensures.ok ∙ ap (λ m. merges ++ m ∷ []) c.merge.ensures))
     (sweep_merges sinks merges live next.live c.args.queue.now c.args.node
     c.unwrap-pair.result c.args.live.ordered next.ordered held

@@ -1,6 +1,0 @@
-use Rattle.topology.specs.LiveClusters.{AreFirstSinks}
-use Rattle.topology.proofs.merging.sink_clusters.Given as goal
-
--- the sinks so far have their clusters
-abbrev pub invariant-loop-sink : goal.invariant-loop-sink
-invariant-loop-sink l = AreFirstSinks l.sinks l.sink-index l.live.live
