@@ -29,12 +29,12 @@ pub fn greedy(alloc: Global, sinks: &[Sink]) -> Result<Topology, NoMemory>
 {
     let mut queue = Queue::new(alloc);
     let mut merges = Listed::new(alloc);
-    let mut live = swept(alloc, sinks, &mut queue, &mut merges)?;
+    let mut clusters = swept(alloc, sinks, &mut queue, &mut merges)?;
     for _merge in merges.len() + 1..sinks.len() {
-        let pair = cheapest(&live, &mut queue).unwrap();
+        let pair = cheapest(&clusters, &mut queue).unwrap();
         merges.push(pair.merge())?;
-        live = live.join(&pair)?;
-        queue.push_found(live.nearest(live.count() - 1))?;
+        clusters = clusters.join(&pair)?;
+        queue.push_found(clusters.nearest(clusters.count() - 1))?;
     }
     Ok(Topology { merges })
 }
@@ -50,57 +50,57 @@ fn swept(
     requires sinks { AreTreeSinks sinks.now }
     requires queue { queue.old ≡ [] }
     requires merges { merges.old ≡ [] }
-    ensures { IfOk result (λ live. IsMerging sinks.now merges.new live.live queue.new) }
+    ensures { IfOk result (λ clusters. IsMerging sinks.now merges.new clusters.live queue.new) }
 {
-    let mut live = Ordered::new(alloc, Axis::sparsest(sinks));
+    let mut clusters = Ordered::new(alloc, Axis::sparsest(sinks));
     for sink in sinks {
-        live = live.add(Cluster::of(*sink))?;
+        clusters = clusters.add(Cluster::of(*sink))?;
     }
     let mut node = 0;
-    while node < live.count() {
-        live = sweep(live, queue, merges, node)?;
+    while node < clusters.count() {
+        clusters = sweep(clusters, queue, merges, node)?;
         node += 1;
     }
-    live.live.early = live.count();
-    Ok(live)
+    clusters.live.early = clusters.count();
+    Ok(clusters)
 }
 
 // Merges a node with the first later one where that costs nothing, and else keeps its cheapest
 // pair.
 fn sweep(
-    live: Ordered,
+    clusters: Ordered,
     queue: &mut Queue,
     merges: &mut Listed<Merge>,
     node: u32,
 ) -> Result<Ordered, NoMemory>
-    requires { length live.live.keys + 1 < 2 ^ 32 }
+    requires { length clusters.live.keys + 1 < 2 ^ 32 }
     ensures { IfOk result (λ next. (sinks : List Sink)
-        → IsSwept sinks merges.old live.live queue.old node
+        → IsSwept sinks merges.old clusters.live queue.old node
         → IsSwept sinks merges.new next.live queue.new (node + 1)) }
 {
-    let found = live.nearest(node);
+    let found = clusters.nearest(node);
     if !costs_nothing(&found) {
         queue.push_found(found)?;
-        return Ok(live);
+        return Ok(clusters);
     }
     let pair = found.unwrap();
     merges.push(pair.merge())?;
-    live.join(&pair)
+    clusters.join(&pair)
 }
 
 // The pair that is to be merged next. Pairs that were broken up by a merge are renewed where they
 // come first.
-fn cheapest(live: &Ordered, queue: &mut Queue) -> Option<Pair>
-    requires { AreKept live.now.live queue.old }
-    ensures found { IfSome result (IsCheapestPair live.now.live) }
-    ensures none { IsNone result → (pair : Pair) → ¬ IsPair live.now.live pair }
-    ensures kept { AreKept live.now.live queue.new }
+fn cheapest(clusters: &Ordered, queue: &mut Queue) -> Option<Pair>
+    requires { AreKept clusters.now.live queue.old }
+    ensures found { IfSome result (IsCheapestPair clusters.now.live) }
+    ensures none { IsNone result → (pair : Pair) → ¬ IsPair clusters.now.live pair }
+    ensures kept { AreKept clusters.now.live queue.new }
 {
     while let Some(pair) = queue.first() {
-        if live.live.has(&pair) {
+        if clusters.live.has(&pair) {
             return Some(pair);
         }
-        queue.replace_first(live.nearest(live.live.owner(&pair)));
+        queue.replace_first(clusters.nearest(clusters.live.owner(&pair)));
     }
     None
 }

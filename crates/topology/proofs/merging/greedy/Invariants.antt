@@ -3,5 +3,5 @@ use Rattle.topology.proofs.merging.greedy.Given as goal
 
 -- all is right with the merges so far
 abbrev pub invariant-loop-merge : goal.invariant-loop-merge
-invariant-loop-merge l = IsMerging l.sinks l.merges l.live.live l.queue
+invariant-loop-merge l = IsMerging l.sinks l.merges l.clusters.live l.queue
     × (l._merge ≡ length l.merges + 1)

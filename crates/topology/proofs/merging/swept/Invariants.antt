@@ -3,11 +3,11 @@ use Rattle.topology.proofs.merging.swept.Given as goal
 
 -- the sinks so far have their clusters
 abbrev pub invariant-loop-sink : goal.invariant-loop-sink
-invariant-loop-sink l = AreFirstSinks l.sinks l.sink-index l.live.live
+invariant-loop-sink l = AreFirstSinks l.sinks l.sink-index l.clusters.live
 
 -- the nodes so far are swept
 abbrev pub invariant-loop-node : goal.invariant-loop-node
-invariant-loop-node l = IsSwept l.sinks l.merges l.live.live l.queue l.node
+invariant-loop-node l = IsSwept l.sinks l.merges l.clusters.live l.queue l.node
 
 -- there are no more nodes than the sinks and as many merges
 abbrev pub decreases-loop-node : goal.decreases-loop-node
