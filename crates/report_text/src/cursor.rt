@@ -1,7 +1,8 @@
 //! What is left of a text that is read line by line.
 
-ghost use Rattle.std.specs.Prelude.{MatchBool, [], None, Some, if◌then◌else◌, ◌≡◌, ◌==◌, map, position, IfOk, ◌<◌, length, IfErr};
+ghost use Rattle.std.specs.Prelude.{MatchBool, [], None, Some, if◌then◌else◌, ◌≡◌, ◌≢◌, ◌==◌, ℕ, List, map, position, IfOk, ◌<◌, length, IfErr};
 ghost use Rattle.report_text.specs.Vocabulary.{Extra, is_line_feed, words_of, Left, TakesLine, BadLine, Missing};
+ghost use Rattle.report_text.specs.declared.fault.ReportFault.TheVariants as faults;
 
 use crate::fault::ReportFault;
 use cts_base::NoMemory;
@@ -52,12 +53,13 @@ impl<'a> Cursor<'a> {
         }
     }
 
-    /// Takes the next line, without its line feed.
-    pub(crate) fn next_line(&mut self) -> Result<&'a [u8], ReportFault>
+    /// Takes the next line, and gives its words.
+    pub(crate) fn next_words(&mut self, alloc: Global) -> Result<Vec<&'a [u8]>, ReportFault>
         requires { self.old.line < 1000000 }
-        ensures ok { IfOk result (λ line. TakesLine self.old line.now self.new) }
-        ensures fault { IfErr result (λ fault. MatchBool (length self.old.text == 0)
-            (fault ≡ Missing self.old.line)
+        ensures ok { IfOk result (λ words. (line : List ℕ) × TakesLine self.old line self.new
+            × (map (λ word. word.now) words.items ≡ words_of line)) }
+        ensures fault { IfErr result (λ fault. fault ≢ faults.NoMemory
+            → MatchBool (length self.old.text == 0) (fault ≡ Missing self.old.line)
             ((position is_line_feed self.old.text ≡ None) × (fault ≡ BadLine self.old.line))) }
     {
         if self.rest.is_empty() {
@@ -69,7 +71,7 @@ impl<'a> Cursor<'a> {
         let (line, rest) = self.rest.split_at(end);
         self.rest = rest.split_at(1).1;
         self.line += 1;
-        Ok(line)
+        Ok(words_of(alloc, line)?)
     }
 }
 
@@ -79,8 +81,8 @@ fn first_line_feed(text: &[u8]) -> Option<usize>
     text.iter().position(|byte| *byte == b'\n')
 }
 
-/// The words of a line.
-pub(crate) fn words_of(alloc: Global, line: &[u8]) -> Result<Vec<&[u8]>, NoMemory>
+// The words of a line.
+fn words_of(alloc: Global, line: &[u8]) -> Result<Vec<&[u8]>, NoMemory>
     ensures { IfOk result (λ words. map (λ word. word.now) words.items ≡ words_of line.now) }
 {
     Ok(line.split(|byte| *byte == b' ').collect(alloc)?)

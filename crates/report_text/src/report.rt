@@ -1,5 +1,5 @@
-ghost use Rattle.std.specs.Prelude.{◌≡◌, IfOk};
-ghost use Rattle.report_text.specs.Vocabulary.{Tech, text_of, IsOfSize, IsWithinBounds, HasSmallLengths, report_lines};
+ghost use Rattle.std.specs.Prelude.{◌≡◌, ◌^◌, All, IfOk};
+ghost use Rattle.report_text.specs.Vocabulary.{Tech, text_of, IsOfSize, IsWithinBounds, HasSmallLengths, IsBelow, IsSmallPeriod, report_lines};
 ghost use Rattle.cts_model.specs.Vocabulary.{size_prop};
 
 use crate::timing::push_timing;
@@ -9,12 +9,15 @@ use cts_model::{Circuit, Report};
 use std::alloc::Global;
 
 /// A report that is printed over its circuit: its lists are as long as the circuit has them, and
-/// its lengths are within their bounds.
+/// its times and lengths are within their bounds.
 #[derive(Drop)]
 pub(crate) struct Printed<'a> {
     pub circuit: &'a Circuit,
     pub report: &'a Report,
     ghost size: { IsOfSize circuit.now report.now } by { size_prop _ _ },
+    ghost period: { IsSmallPeriod report.now.period },
+    ghost den: { report.now.schedule.den ≡ report.now.period.den },
+    ghost arrivals: { All (IsBelow (10 ^ 19)) report.now.schedule.at },
     ghost lengths: { HasSmallLengths report.now },
 }
 

@@ -1,12 +1,12 @@
 //! What the lines of a report are judged by.
 
 ghost use Rattle.std.specs.Prelude.{◌≡◌, IfOk, length};
-ghost use Rattle.report_text.specs.Vocabulary.{register_names, signal_names, register_name, signal_name, IsNumberOf, IsSmallPeriod, IsSmallScale, scale_in};
+ghost use Rattle.report_text.specs.Vocabulary.{register_names, signal_names, register_name, signal_name, IsNumberOf, IsSmallScale, scale_in};
 
 use crate::field::Scale;
 use crate::timing::signal_name;
-use cts_base::{Fraction, NoMemory};
-use cts_model::{Circuit, Grid, Tech};
+use cts_base::NoMemory;
+use cts_model::{Circuit, Grid};
 use name_set::NameSet;
 use std::alloc::Global;
 
@@ -46,18 +46,17 @@ impl<'a> Rules<'a> {
         }
     }
 
-    /// The same rules with so many steps.
-    pub(crate) fn with_scale(self, scale: Scale) -> Rules<'a>
-        requires { IsSmallScale scale }
+    /// The same rules with the steps of a grid and of its period.
+    pub(crate) fn on_grid(self, grid: Grid) -> Rules<'a>
         ensures circuit { result.circuit.now ≡ self.entry.circuit.now }
-        ensures scale { result.scale ≡ scale }
+        ensures scale { result.scale ≡ scale_in grid.entry.tech.now grid.entry.period }
     {
         Rules {
             alloc: self.alloc,
             circuit: self.circuit,
             registers: self.registers,
             signals: self.signals,
-            scale,
+            scale: scale_of(grid),
         }
     }
 
@@ -89,15 +88,13 @@ pub(crate) fn signal_names(alloc: Global, circuit: &Circuit) -> Result<NameSet, 
     Ok(names)
 }
 
-/// The steps of a report of that period.
-pub(crate) fn scale_of(period: Fraction, tech: &Tech) -> Scale
-    requires { IsSmallPeriod period }
-    ensures value { result ≡ scale_in tech.now period }
+// The steps of a grid and of its period.
+fn scale_of(grid: Grid) -> Scale
+    ensures value { result ≡ scale_in grid.entry.tech.now grid.entry.period }
     ensures small { IsSmallScale result }
 {
-    let grid = Grid { period, tech };
     Scale {
-        den: period.den(),
+        den: grid.period.den(),
         grid: grid.steps_of_unit(),
     }
 }

@@ -1,17 +1,16 @@
 //! Appending the lines of a report's timing: the period, the schedule, and what shows them.
 
-ghost use Rattle.std.specs.Prelude.{◌≡◌, ◌<◌, ◌≤ℤ◌, ◌^◌, ℤ, pos, ◌++◌, ◌∷◌, [], length, map, codes, All, OnOk};
-ghost use Rattle.report_text.specs.Vocabulary.{Second, HasSizeBelow, line_of, text_of, count_line, register_line, slack_text, HasTimingBounds, IsBetweenRegisters, LeadsAmong, version_line, path_line, pathed_lines, period_show_lines, register_line_at, lead_line, lines_below, timing_lines, signal_name, arrival_of, suffix};
+ghost use Rattle.std.specs.Prelude.{◌≡◌, ◌<◌, ◌≤ℤ◌, ◌^◌, ℤ, pos, ◌++◌, ◌∷◌, [], length, map, All, OnOk};
+ghost use Rattle.report_text.specs.Vocabulary.{Second, HasSizeBelow, line_of, text_of, register_line, slack_text, LeadsAmong, version_line, path_line, period_show_lines, register_line_at, lead_line, lines_below, timing_lines, signal_name, arrival_of, suffix};
 
 use crate::line::{push_count, push_line, push_line_for, push_number, push_word};
 use crate::period::{push_period, push_show};
 use crate::report::Printed;
-use cts_base::{Fraction, Listed, NoMemory, push_fraction, push_quotient};
-use cts_model::{Circuit, Constraint, Lead, PeriodShow, Schedule, Slack, Version};
+use cts_base::{Fraction, NoMemory, push_fraction, push_quotient};
+use cts_model::{Circuit, Lead, PeriodShow, Schedule, Slack, Version};
 
 /// Appends the lines from the first to the leads.
 pub fn push_timing(out: &mut Vec<u8>, printed: &Printed) -> Result<(), NoMemory>
-    requires { HasTimingBounds printed.now.report.now }
     ensures { OnOk result (out.new.items ≡ out.old.items
         ++ text_of (timing_lines printed.now.circuit.now printed.now.report.now)) }
 {
@@ -21,7 +20,7 @@ pub fn push_timing(out: &mut Vec<u8>, printed: &Printed) -> Result<(), NoMemory>
     push_show_of(out, printed)?;
     push_count(out, b"registers", report.schedule.at.len())?;
     push_registers(out, printed)?;
-    push_leads(out, printed.circuit, report.leads.as_slice())
+    push_leads(out, printed)
 }
 
 // Appends the first line.
@@ -46,33 +45,16 @@ fn push_show_of(out: &mut Vec<u8>, printed: &Printed) -> Result<(), NoMemory>
         Version::First => push_show(out, circuit, &report.shown),
         Version::Second => match &report.shown {
             PeriodShow::Cycle(cycle) => {
-                push_pathed(out, circuit, cycle.as_slice(), report.paths.as_slice())
+                push_count(out, b"cycle", cycle.len())?;
+                for place in 0..cycle.len() {
+                    push_line_for(out, circuit, cycle.as_slice()[place])?;
+                    push_path(out, circuit, report.paths.as_slice()[place].as_slice())?;
+                }
+                Ok(())
             }
             PeriodShow::Floor => push_line(out, b"floor", &[]),
         },
     }
-}
-
-// Appends the lines of a cycle with a path after each constraint.
-fn push_pathed(
-    out: &mut Vec<u8>,
-    circuit: &Circuit,
-    cycle: &[Constraint],
-    paths: &[Listed<u32>],
-) -> Result<(), NoMemory>
-    requires registers { All (IsBetweenRegisters (length circuit.now.registers)) cycle.now }
-    requires signals { All (All (λ number. number < length circuit.now.signals)) paths.now }
-    requires paths { length paths.now ≡ length cycle.now }
-    ensures { OnOk result (out.new.items ≡ out.old.items ++ text_of
-        (count_line (codes "cycle") (length cycle.now)
-        ∷ pathed_lines circuit.now cycle.now paths.now)) }
-{
-    push_count(out, b"cycle", cycle.len())?;
-    for place in 0..cycle.len() {
-        push_line_for(out, circuit, cycle[place])?;
-        push_path(out, circuit, paths[place].as_slice())?;
-    }
-    Ok(())
 }
 
 // Appends the line of a path: its signals, or that it isn't printed.
@@ -113,7 +95,6 @@ pub(crate) fn signal_name(circuit: &Circuit, number: usize) -> &[u8]
 
 // Appends the line of each register.
 fn push_registers(out: &mut Vec<u8>, printed: &Printed) -> Result<(), NoMemory>
-    requires { HasTimingBounds printed.now.report.now }
     ensures { OnOk result (out.new.items ≡ out.old.items ++ text_of
         (lines_below (register_line_at printed.now.circuit.now printed.now.report.now)
         (length printed.now.report.now.schedule.at))) }
@@ -170,13 +151,12 @@ fn push_slack(out: &mut Vec<u8>, slack: Option<Fraction>) -> Result<(), NoMemory
 }
 
 // Appends the line of each lead.
-fn push_leads(out: &mut Vec<u8>, circuit: &Circuit, leads: &[Lead]) -> Result<(), NoMemory>
-    requires { All (LeadsAmong (length circuit.now.registers)) leads.now }
-    ensures { OnOk result (out.new.items
-        ≡ out.old.items ++ text_of (map (lead_line circuit.now) leads.now)) }
+fn push_leads(out: &mut Vec<u8>, printed: &Printed) -> Result<(), NoMemory>
+    ensures { OnOk result (out.new.items ≡ out.old.items
+        ++ text_of (map (lead_line printed.now.circuit.now) printed.now.report.now.leads)) }
 {
-    for lead in leads {
-        push_lead(out, circuit, *lead)?;
+    for lead in printed.report.leads.as_slice() {
+        push_lead(out, printed.circuit, *lead)?;
     }
     Ok(())
 }

@@ -1,7 +1,7 @@
 //! Appending the lines of a report's tree: its merges, its nodes, and what shows their reaches.
 
-ghost use Rattle.std.specs.Prelude.{◌≡◌, ◌<◌, ◌^◌, ◌++◌, ◌∷◌, ◌≤ℤ◌, ◌<ℤ◌, [], pos, length, All, OnOk, slice_index_or};
-ghost use Rattle.report_text.specs.Vocabulary.{flat_map, IsBelow, IsPointBelow, line_of, text_of, IsSmallWire, ShowsAmong, length_text, lines_below, merge_line_at, no_wire, node_line_at, number_at, point_words, show_words, source_line, tree_lines, wire_words, suffix, HasSmallLengths, wire_line};
+ghost use Rattle.std.specs.Prelude.{◌≡◌, ◌<◌, ◌^◌, ◌++◌, ◌∷◌, ◌≤ℤ◌, ◌<ℤ◌, [], pos, length, OnOk, slice_index_or};
+ghost use Rattle.report_text.specs.Vocabulary.{IsBelow, IsPointBelow, line_of, text_of, IsSmallWire, ShowsAmong, length_text, lines_below, merge_line_at, no_wire, node_line_at, point_words, show_words, source_line, tree_lines, wire_words, suffix, HasSmallLengths, wire_line};
 ghost use Rattle.cts_model.specs.declared.tree.Show.TheVariants.{Root};
 
 use crate::line::{push_count, push_node, push_number, push_word};
@@ -46,7 +46,7 @@ fn push_merge(out: &mut Vec<u8>, printed: &Printed, place: usize) -> Result<(), 
     push_node(out, node)?;
     push_number(out, merge.first as usize)?;
     push_number(out, merge.second as usize)?;
-    push_reach(out, printed, node)?;
+    push_length(out, printed, printed.report.tree.reach.as_slice()[node])?;
     push_shown(out, printed.circuit, show_at(printed, place))?;
     out.push(b'\n')?;
     Ok(())
@@ -57,22 +57,13 @@ fn push_source(out: &mut Vec<u8>, printed: &Printed) -> Result<(), NoMemory>
     ensures { OnOk result (out.new.items
         ≡ out.old.items ++ line_of (source_line printed.now.circuit.now printed.now.report.now)) }
 {
-    out.extend_from_slice(b"source")?;
-    push_reach(out, printed, 2 * printed.report.schedule.at.len() - 1)?;
+    let node = 2 * printed.report.schedule.at.len() - 1;
     let merges = printed.report.topology.merges.len();
+    out.extend_from_slice(b"source")?;
+    push_length(out, printed, printed.report.tree.reach.as_slice()[node])?;
     push_shown(out, printed.circuit, show_at(printed, merges))?;
     out.push(b'\n')?;
     Ok(())
-}
-
-// Appends the reach of a node.
-fn push_reach(out: &mut Vec<u8>, printed: &Printed, node: usize) -> Result<(), NoMemory>
-    requires within { node < length printed.now.report.now.tree.reach }
-    ensures { OnOk result (out.new.items ≡ out.old.items
-        ++ suffix (length_text printed.now.report.now
-        (number_at printed.now.report.now.tree.reach node) ∷ [])) }
-{
-    push_length(out, printed, printed.report.tree.reach.as_slice()[node])
 }
 
 // What shows the reach of a merge, or after all of them that of the source.
@@ -123,20 +114,10 @@ fn push_node_line(out: &mut Vec<u8>, printed: &Printed, node: usize) -> Result<(
 {
     push_node(out, node)?;
     push_point(out, printed, printed.report.tree.place.as_slice()[node])?;
-    push_edge(out, printed, node)?;
+    push_length(out, printed, printed.report.tree.length.as_slice()[node])?;
     push_wire(out, printed, wire_at(printed, node))?;
     out.push(b'\n')?;
     Ok(())
-}
-
-// Appends the length of a node's edge.
-fn push_edge(out: &mut Vec<u8>, printed: &Printed, node: usize) -> Result<(), NoMemory>
-    requires within { node < length printed.now.report.now.tree.length }
-    ensures { OnOk result (out.new.items ≡ out.old.items
-        ++ suffix (length_text printed.now.report.now
-        (number_at printed.now.report.now.tree.length node) ∷ [])) }
-{
-    push_length(out, printed, printed.report.tree.length.as_slice()[node])
 }
 
 // The drawn wire of a node's edge.
@@ -155,16 +136,7 @@ fn push_wire(out: &mut Vec<u8>, printed: &Printed, wire: Wire) -> Result<(), NoM
         ≡ out.old.items ++ suffix (wire_words printed.now.report.now wire)) }
 {
     push_number(out, wire.used as usize)?;
-    push_points(out, printed, wire.corners.split_at(wire.used as usize).0)
-}
-
-// Appends points.
-fn push_points(out: &mut Vec<u8>, printed: &Printed, points: &[Point]) -> Result<(), NoMemory>
-    requires points { All (IsPointBelow (10 ^ 32)) points.now }
-    ensures { OnOk result (out.new.items
-        ≡ out.old.items ++ suffix (flat_map (point_words printed.now.report.now) points.now)) }
-{
-    for point in points {
+    for point in wire.corners.split_at(wire.used as usize).0 {
         push_point(out, printed, *point)?;
     }
     Ok(())

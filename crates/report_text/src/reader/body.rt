@@ -11,21 +11,19 @@ use crate::rules::Rules;
 use crate::sections::Body;
 use cts_model::{Circuit, Version};
 
-/// Reads all sections after what shows the period, over so many registers.
+/// Reads all sections after what shows the period.
 pub(crate) fn read_body(
     rules: &Rules,
     version: Version,
-    count: u32,
     cursor: &mut Cursor,
 ) -> Result<Body, ReportFault>
     requires line { cursor.old.line < 30000 }
-    requires some { 1 ≤ count }
-    requires few { count ≤ 4097 }
-    ensures ok { IfOk result (HasBody rules.now.circuit.now rules.now.scale version count
-        cursor.old cursor.new) }
+    ensures ok { IfOk result (HasBody rules.now.circuit.now rules.now.scale version
+        (length rules.now.circuit.now.registers) cursor.old cursor.new) }
     ensures fault { IfErr result (Stops rules.now.circuit.now rules.now.scale
-        (forms_after version count) cursor.old) }
+        (forms_after version (length rules.now.circuit.now.registers)) cursor.old) }
 {
+    let count = registers_of(rules.circuit);
     let timings = read_counted(rules, b"registers", 0, count, cursor)?;
     let leads = read_rows(rules, 0, leads_in(version, count), cursor)?;
     let merged = read_counted(rules, b"merges", count, count - 1, cursor)?;
@@ -53,8 +51,8 @@ fn leads_in(version: Version, count: u32) -> u32
     }
 }
 
-/// How many registers a circuit has, the host among them.
-pub(crate) fn registers_of(circuit: &Circuit) -> u32
+// How many registers a circuit has, the host among them.
+fn registers_of(circuit: &Circuit) -> u32
     ensures value { result ≡ length circuit.now.registers }
     ensures some { 1 ≤ result }
     ensures few { result ≤ 4097 }

@@ -1,18 +1,16 @@
 //! A line of a report that is read by the form that is due.
 
-ghost use Rattle.std.specs.Prelude.{◌≡◌, ◌≢◌, ◌<◌, ℕ, List, length, map, IfOk, IfErr, MatchBool, position, None, ◌==◌};
-ghost use Rattle.report_text.specs.Vocabulary.{DenotesPath, Words, count_line, fault_of, unknown_on, UnknownRegister, words_of, ReadsForm, DenotesLine, ReadsLine, StopsLine, TakesLine, Circuit, Form, Scale, BadLine, Missing, is_line_feed};
-ghost use Rattle.report_text.specs.declared.fault.ReportFault.TheVariants as faults;
+ghost use Rattle.std.specs.Prelude.{◌≡◌, ◌<◌, ℕ, length, IfOk, IfErr};
+ghost use Rattle.report_text.specs.Vocabulary.{DenotesPath, Words, count_line, fault_of, unknown_on, UnknownRegister, ReadsForm, DenotesLine, ReadsLine, StopsLine, Circuit, Form, Scale};
 ghost use Rattle.report_text.specs.LineForms as form;
 
-use crate::cursor::{Cursor, words_of};
+use crate::cursor::Cursor;
 use crate::fault::ReportFault;
 use crate::field::Flaw;
 use crate::rules::Rules;
 use crate::scan::Scan;
 use crate::timing_values::path_of;
 use cts_base::{Listed, NoMemory};
-use std::alloc::Global;
 
 /// What a line of a report says. Lines of one form may be numbered.
 pub(crate) trait Line: Drop {
@@ -44,7 +42,7 @@ pub(crate) fn read<L: Line>(
         cursor.old) }
 {
     let at = cursor.line();
-    let words = next_words(rules.alloc, cursor)?;
+    let words = cursor.next_words(rules.alloc)?;
     let mut scan = Scan::of(words.as_slice());
     let line = L::read(rules, number, &mut scan)?;
     match scan.end() {
@@ -62,7 +60,7 @@ pub(crate) fn read_path(rules: &Rules, cursor: &mut Cursor) -> Result<Listed<u32
         cursor.old) }
 {
     let at = cursor.line();
-    let words = next_words(rules.alloc, cursor)?;
+    let words = cursor.next_words(rules.alloc)?;
     let mut scan = Scan::of(words.as_slice());
     let path = path_of(rules, &mut scan)?;
     match scan.end() {
@@ -85,7 +83,7 @@ pub(crate) fn read_count(
         (form.Count word.now count) cursor.old) }
 {
     let at = cursor.line();
-    let words = next_words(rules.alloc, cursor)?;
+    let words = cursor.next_words(rules.alloc)?;
     let mut scan = Scan::of(words.as_slice());
     scan.keyword(word);
     scan.exactly(count);
@@ -93,20 +91,6 @@ pub(crate) fn read_count(
         None => Ok(()),
         Some(flaw) => Err(fault_of(ReportFault::UnknownRegister(at), at, flaw)),
     }
-}
-
-// The words of the next line.
-fn next_words<'a>(alloc: Global, cursor: &mut Cursor<'a>) -> Result<Vec<&'a [u8]>, ReportFault>
-    requires line { cursor.old.line < 1000000 }
-    ensures ok { IfOk result (λ words. (line : List ℕ) × TakesLine cursor.old line cursor.new
-        × (map (λ word. word.now) words.items ≡ words_of line)) }
-    ensures fault { IfErr result (λ fault. fault ≢ faults.NoMemory
-        → MatchBool (length cursor.old.text == 0) (fault ≡ Missing cursor.old.line)
-        ((position is_line_feed cursor.old.text ≡ None) × (fault ≡ BadLine cursor.old.line))) }
-{
-    let line = cursor.next_line()?;
-    let words = words_of(alloc, line)?;
-    Ok(words)
 }
 
 // The fault that a line has with a flaw, or with a name that is unknown.

@@ -1,6 +1,6 @@
 //! Lines of one form, one after the other.
 
-ghost use Rattle.std.specs.Prelude.{◌<◌, ◌≤◌, ◌∷◌, IfOk, IfErr, map};
+ghost use Rattle.std.specs.Prelude.{◌<◌, ◌+◌, ◌*◌, ◌∷◌, IfOk, IfErr, map};
 ghost use Rattle.report_text.specs.Vocabulary.{range_with_len, cycle_forms, Counted, HasPathed, HasRows, Stops, Second};
 ghost use Rattle.report_text.specs.LineForms as form;
 
@@ -19,9 +19,7 @@ pub(crate) fn read_counted<L: Line>(
     count: u32,
     cursor: &mut Cursor,
 ) -> Result<Listed<L>, ReportFault>
-    requires line { cursor.old.line < 90000 }
-    requires first { first ≤ 10000 }
-    requires count { count ≤ 10000 }
+    requires few { cursor.old.line + first + count < 900000 }
     ensures ok { IfOk result (Counted rules.now.circuit.now rules.now.scale word.now L.due
         (L.says rules.now.circuit.now rules.now.scale) first count cursor.old cursor.new) }
     ensures fault { IfErr result (Stops rules.now.circuit.now rules.now.scale
@@ -39,9 +37,7 @@ pub(crate) fn read_rows<L: Line>(
     count: u32,
     cursor: &mut Cursor,
 ) -> Result<Listed<L>, ReportFault>
-    requires line { cursor.old.line < 100000 }
-    requires first { first ≤ 10000 }
-    requires count { count ≤ 10000 }
+    requires few { cursor.old.line + first + count < 1000000 }
     ensures ok { IfOk result (HasRows rules.now.circuit.now rules.now.scale L.due
         (L.says rules.now.circuit.now rules.now.scale) first count cursor.old cursor.new) }
     ensures fault { IfErr result (Stops rules.now.circuit.now rules.now.scale
@@ -61,8 +57,7 @@ pub(crate) fn read_pathed(
     count: u32,
     cursor: &mut Cursor,
 ) -> Result<(Listed<Constraint>, Listed<Listed<u32>>), ReportFault>
-    requires line { cursor.old.line < 100000 }
-    requires count { count ≤ 10000 }
+    requires few { cursor.old.line + 2 * count < 1000000 }
     ensures ok { IfOk result (HasPathed rules.now.circuit.now rules.now.scale count
         cursor.old cursor.new) }
     ensures fault { IfErr result (Stops rules.now.circuit.now rules.now.scale

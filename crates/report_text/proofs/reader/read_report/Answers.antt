@@ -1,5 +1,5 @@
 use Rattle.report_text.proofs.Vocabulary.{rules, arith, subst, sym, Spells}
-use Rattle.report_text.proofs.AssemblyLemmas.{arrivals_below, parts_spelled, parts_printable}
+use Rattle.report_text.proofs.AssemblyLemmas.{parts_spelled, parts_printable}
 use Rattle.report_text.proofs.PassedTexts.{fault_or_report}
 use Rattle.report_text.proofs.WalkLemmas.{passed_on}
 use Rattle.report_text.proofs.WholeTexts.{fault_read, spelled_read}
@@ -9,7 +9,8 @@ pub report_of-requires-clause-period : goal.report_of-requires-clause-period
 report_of-requires-clause-period c = c.in_ok-parts.ensures.ok.heading.small
 
 pub report_of-requires-clause-arrivals : goal.report_of-requires-clause-arrivals
-report_of-requires-clause-arrivals c = arrivals_below (parts_printable c.in_ok-parts.ensures.ok)
+report_of-requires-clause-arrivals c place default within =
+    ((parts_printable c.in_ok-parts.ensures.ok).timings place default within 0).small
 
 pub returns-clause-ok : goal.returns-clause-ok
 returns-clause-ok c =

@@ -4,7 +4,7 @@ use Rattle.report_text.proofs.rules.scale_of.Goals as goal
 
 pub returns-clause-value : goal.returns-clause-value
 returns-clause-value c =
-    let small = scale_small c.args.tech.now c.args.period c.requires in
+    let small = scale_small c.args.grid.tech.now c.args.grid.period c.args.grid.small in
     let den = held_same c.den.result
     (subst (HasSizeBelow (10 ^ 37)) (sym c.den.ensures.value) small.small_den)
     ∙ c.den.ensures.value in
@@ -14,4 +14,4 @@ returns-clause-value c =
     λ i. record { den = den i; grid = grid i }
 
 pub returns-clause-small : goal.returns-clause-small
-returns-clause-small c = search (arith, returns-clause-value, scale_small, c.requires)
+returns-clause-small c = search (arith, returns-clause-value, scale_small, c.args.grid.small)

@@ -1,4 +1,4 @@
-use Rattle.report_text.proofs.Vocabulary.{◌∷◌, [], ◌+◌, length, pos, slice_index_or, signed_decimal, Root, length_text, number_at, show_words}
+use Rattle.report_text.proofs.Vocabulary.{◌≡◌, ◌∷◌, [], ◌+◌, ◌++◌, length, pos, slice_index_or, arith, signed_decimal, Root, length_text, number_at, show_words, suffix}
 use Rattle.report_text.proofs.LineLemmas.{after_more, whole_line}
 use Rattle.report_text.proofs.tree.push_merge.Goals as goal
 
@@ -16,8 +16,9 @@ returns c =
     let begun = c.push_node.new.out.items in
     let both = after_more _ _ _ (first ∷ []) (second ∷ []) (rw c.as_slice.ensures at
     c.in_ok-push_number.ensures) (rw c.as_slice.ensures at c.in_ok-push_number-2.ensures) in
-    let reached = after_more _ _ _ (first ∷ second ∷ []) (reach ∷ []) both
-    (rw c.len.ensures at c.in_ok-push_reach.ensures) in
+    let length : c.push_length.new.out.items
+    ≡ c.push_number-2.new.out.items ++ suffix (reach ∷ []) = search arith in
+    let reached = after_more _ _ _ (first ∷ second ∷ []) (reach ∷ []) both length in
     let shown = after_more _ _ _ (first ∷ second ∷ reach ∷ []) _ reached
     (rw c.show_at.ensures at c.in_ok-push_shown.ensures) in
     whole_line c.args.out.now.items begun _ _ (signed_decimal (pos node))

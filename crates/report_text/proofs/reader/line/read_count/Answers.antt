@@ -16,7 +16,7 @@ returns-in-None-clause-ok c =
     c.of-scan.ensures c.in_ok-words.ensures.ok.1 reads (c.in-None.ensures.judged circuit)
     (c.in-None.ensures.sound refl) in
     subst (λ words. ReadsLine circuit scale (form.Count c.args.word.now c.args.count) words
-    c.args.cursor.now c.next_words.new.cursor) says read
+    c.args.cursor.now c.next_words.new.self) says read
 
 pub returns-clause-fault : goal.returns-clause-fault
 returns-clause-fault c =

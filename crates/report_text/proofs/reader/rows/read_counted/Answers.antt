@@ -2,11 +2,11 @@ use Rattle.report_text.proofs.Vocabulary.{arith}
 use Rattle.report_text.proofs.WalkLemmas.{passed_on, stop_before, stop_after, stop_line}
 use Rattle.report_text.proofs.reader.rows.read_counted.Goals as goal
 
-pub read_rows-requires-clause-line : goal.read_rows-requires-clause-line
-read_rows-requires-clause-line g c =
+pub read_rows-requires : goal.read_rows-requires
+read_rows-requires g c =
     let line = c.in_ok-read_count.ensures.ok in
     let read = line.read c.args.rules.now.scale line.flawless in
-    omega (arith, read.number, c.requires.line)
+    record { few = omega (arith, read.number, c.requires.few) }
 
 pub returns-in_err-read_count-clause-fault : goal.returns-in_err-read_count-clause-fault
 returns-in_err-read_count-clause-fault g c = search (arith, passed_on, stop_before, stop_line)

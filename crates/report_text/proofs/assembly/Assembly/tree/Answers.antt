@@ -1,11 +1,11 @@
 use Rattle.report_text.proofs.Vocabulary.{◌≡◌, map, rules, tests}
 use Rattle.std.proofs.lemmas.Iterator.{items_from_collect, YieldsList-from_map, YieldsList-from_slice}
 use Rattle.std.proofs.lemmas.Result.{IfOk-at_ok}
-use Rattle.report_text.proofs.assembly.tree_of.Goals as goal
+use Rattle.report_text.proofs.assembly.Assembly.tree.Goals as goal
 
 pub returns : goal.returns
 returns c =
-    let body = c.args.parts.now.body in
+    let body = c.args.self.now.parts.now.body in
     let merges : c.in_ok-merges.merges.items ≡ map (λ row. row.reach) body.merged =
     IfOk-at_ok _ c.in_ok-merges.was (items_from_collect _ c.collect.ensures.ran
     (YieldsList-from_map _ (λ row. row.reach) (YieldsList-from_slice body.merged cc)
