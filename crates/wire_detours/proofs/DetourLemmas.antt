@@ -1,5 +1,5 @@
 -- What the code's numbers say of a detour: half of what a length is beyond a distance.
-use Rattle.wire_detours.proofs.Vocabulary.{◌≡◌, ◌^◌, ℤ, pos, ◌+ℤ◌, ◌-ℤ◌, ◌≤ℤ◌, ◌<ℤ◌, FitsSigned, sym, subst, arith, ints, IsBelow, IsMultipleOf, distance, Point}
+use Rattle.wire_detours.proofs.Vocabulary.{◌≡◌, ◌^◌, ℤ, pos, ◌+ℤ◌, ◌-ℤ◌, ◌≤ℤ◌, ◌<ℤ◌, FitsSigned, arith, ints, IsBelow, IsMultipleOf, distance, Point}
 use Rattle.std.specs.Int.{w128}
 use Rattle.wire_detours.proofs.PieceLemmas.{apart_least}
 use mir.Val.{to_z, of_z}
@@ -8,12 +8,6 @@ use mir.Val.{to_z, of_z}
 abbrev pub kept : ℤ → ℤ
 kept number = to_z w128 (of_z w128 number)
 
--- the length is at least the distance, and below the bound
-pub record IsEnough (long far : ℤ) : Type 0 where
-  pub positive : pos 0 ≤ℤ far
-  pub enough : far ≤ℤ long
-  pub below : long <ℤ pos (10 ^ 32)
-
 -- no distance is less than nothing
 pub distance_least : (from to : Point) → pos 0 ≤ℤ distance from to
 distance_least from to =
@@ -21,98 +15,42 @@ distance_least from to =
     let y = apart_least from.y to.y in
     omega (arith, ints, x, y)
 
--- such a length is enough
-pub is_enough : (from to : Point) (long : ℤ) → distance from to ≤ℤ long → long <ℤ pos (10 ^ 32)
-    → IsEnough long (distance from to)
-is_enough from to long enough below =
-    record { positive = distance_least from to; enough = enough; below = below }
+-- the detour is half of what the length is beyond the distance
+pub record IsHalfBeyond (far long detour : ℤ) : Type 0 where
+  pub twice : far +ℤ detour +ℤ detour ≡ long
+  pub positive : pos 0 ≤ℤ detour
+  pub short : IsBelow (10 ^ 33) detour
 
--- what is beyond fits the code's numbers
-pub beyond_fits : (long far read : ℤ) → IsEnough long far → read ≡ far
-    → FitsSigned w128 (kept long -ℤ kept read)
-beyond_fits long far read enough is = omega (
-  arith,
-  ints,
-  is,
-  enough.positive,
-  enough.enough,
-  enough.below,
-)
+-- half of a short detour is short
+pub side_short : (far long detour side : ℤ) → IsHalfBeyond far long detour
+    → side +ℤ side ≡ kept detour → IsBelow (10 ^ 33) (kept side)
+side_short far long detour side is halves = record {
+  above = omega (arith, ints);
+  below = omega (arith, ints);
+}
 
--- and is kept as it is
-pub beyond_is : (long far read : ℤ) → IsEnough long far → read ≡ far
-    → kept (kept long -ℤ kept read) ≡ long -ℤ far
-beyond_is long far read enough is = omega (
-  arith,
-  ints,
-  is,
-  enough.positive,
-  enough.enough,
-  enough.below,
-)
+-- of a distance that the code read, and a length that is enough
+module _ (from to : Point) (long read : ℤ) (is : read ≡ distance from to)
+    (enough : distance from to ≤ℤ long) (below : long <ℤ pos (10 ^ 32)) where
+  -- what is beyond fits the code's numbers
+  pub beyond_fits : FitsSigned w128 (kept long -ℤ kept read)
+  beyond_fits = let least = distance_least from to in omega (arith, ints)
 
--- between two multiples of 4 there is an even number
-pub beyond_even : (long far beyond : ℤ) → beyond ≡ long -ℤ far → IsMultipleOf 4 long
-    → IsMultipleOf 4 far → IsMultipleOf 2 beyond
-beyond_even long far beyond is multiple far_multiple = omega (
-  arith,
-  ints,
-  is,
-  multiple,
-  far_multiple,
-)
+  -- between two multiples of 4 there is an even number
+  pub beyond_even : IsMultipleOf 4 long → IsMultipleOf 4 (distance from to)
+      → IsMultipleOf 2 (kept (kept long -ℤ kept read))
+  beyond_even multiple far_multiple = let least = distance_least from to in omega (arith, ints)
 
--- a half is kept as it is
-half_is : (long far half : ℤ) → IsEnough long far → half +ℤ half ≡ long -ℤ far → kept half ≡ half
-half_is long far half enough is = omega (
-  arith,
-  ints,
-  is,
-  enough.positive,
-  enough.enough,
-  enough.below,
-)
-
--- twice it is what is beyond
-pub half_twice : (long far half : ℤ) → IsEnough long far → half +ℤ half ≡ long -ℤ far
-    → far +ℤ kept half +ℤ kept half ≡ long
-half_twice long far half enough is = let same = half_is long far half enough is in omega (
-  arith,
-  ints,
-  is,
-  same,
-)
-
--- it is no less than nothing
-pub half_positive : (long far half : ℤ) → IsEnough long far → half +ℤ half ≡ long -ℤ far
-    → pos 0 ≤ℤ kept half
-half_positive long far half enough is = let same = half_is long far half enough is in omega
-    (arith, ints, is, same, enough.enough)
-
--- and below the bound
-pub half_below : (long far half : ℤ) → IsEnough long far → half +ℤ half ≡ long -ℤ far
-    → IsBelow (10 ^ 32) (kept half)
-half_below long far half enough is =
-    let same = half_is long far half enough is in
-    record {
-      above = omega (arith, ints, is, same, enough.positive, enough.enough, enough.below);
-      below = omega (arith, ints, is, same, enough.positive, enough.enough, enough.below);
-    }
-
--- half of what is between two multiples of 4 is even
-half_of_fourths : (long far half : ℤ) → half +ℤ half ≡ long -ℤ far → IsMultipleOf 4 long
-    → IsMultipleOf 4 far → IsMultipleOf 2 half
-half_of_fourths long far half is multiple far_multiple = omega (
-  arith,
-  ints,
-  is,
-  multiple,
-  far_multiple,
-)
-
--- and is so as the code keeps it
-pub half_even : (long far half : ℤ) → IsEnough long far → half +ℤ half ≡ long -ℤ far
-    → IsMultipleOf 4 long → IsMultipleOf 4 far → IsMultipleOf 2 (kept half)
-half_even long far half enough is multiple far_multiple =
-    subst (IsMultipleOf 2) (sym (half_is long far half enough is))
-    (half_of_fourths long far half is multiple far_multiple)
+  -- half of it is the detour
+  pub half_beyond : (half : ℤ) → half +ℤ half ≡ kept (kept long -ℤ kept read)
+      → IsHalfBeyond (distance from to) long (kept half)
+  half_beyond half halves =
+      let least = distance_least from to in
+      record {
+        twice = omega (arith, ints);
+        positive = omega (arith, ints);
+        short = record {
+          above = omega (arith, ints);
+          below = omega (arith, ints);
+        };
+      }
