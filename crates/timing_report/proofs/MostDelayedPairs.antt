@@ -48,15 +48,10 @@ IsMostSoFar-more pairs count place next chosen most = record {
         → next ≡ (if test then count else place)
         → delay_at pairs k default ≤ℤ delay_at pairs next default
     greatest k default early true more is =
+        let less = is_less (delay_at pairs count default) (delay_at pairs place default) more in
         subst (λ n. delay_at pairs k default ≤ℤ delay_at pairs n default) (sym is)
         (at (λ n. delay_at pairs n default ≤ℤ delay_at pairs count default) k early
-        (λ inside. omega (
-          arith,
-          ints,
-          most.greatest k default inside,
-          is_less
-              (delay_at pairs count default) (delay_at pairs place default) more,
-        ))
+        (λ inside. omega (arith, ints, most.greatest k default inside, less))
         (omega (arith, ints)))
     greatest k default early false more is =
         subst (λ n. delay_at pairs k default ≤ℤ delay_at pairs n default) (sym is)
@@ -69,14 +64,9 @@ IsMostSoFar-more pairs count place next chosen most = record {
         → next ≡ (if test then count else place)
         → delay_at pairs k default <ℤ delay_at pairs next default
     first k default early true more is =
+        let less = is_less (delay_at pairs count default) (delay_at pairs place default) more in
         subst (λ n. delay_at pairs k default <ℤ delay_at pairs n default) (sym is)
-        (omega (
-          arith,
-          ints,
-          most.greatest k default (omega (arith, is, early)),
-          is_less
-              (delay_at pairs count default) (delay_at pairs place default) more,
-        ))
+        (omega (arith, ints, most.greatest k default (omega (arith, is, early)), less))
     first k default early false more is =
         subst (λ n. delay_at pairs k default <ℤ delay_at pairs n default) (sym is)
         (most.first k default (omega (arith, is, early)))

@@ -1,5 +1,5 @@
 -- From when what is launched comes to what registers have to spare.
-use Rattle.timing_report.proofs.Vocabulary.{◌≡◌, ◌+◌, ◌<◌, ℕ, ℤ, pos, negsuc, ◌+ℤ◌, ◌*ℤ◌, ◌≤ℤ◌, List, [], ◌∷◌, ◌++◌, length, get_or, Option, Some, None, IsSomeAnd, inl, inr, refl, sym, ◌∙◌, ap, subst, arith, nat_abs, ints, slice_get_within, slice_get-get_or, Circuit, Tech, least_delay, greatest_delay, IsPath, setup_spare, hold_spare, IsLeastSpare, IsSlackOf, IsSlack, AreSlacks, AreSmallSlacks, moved, pushed_cases, setup_ticks, hold_ticks, IsTicks, IsSlackAt, AreSlacksBefore}
+use Rattle.timing_report.proofs.Vocabulary.{◌≡◌, ◌+◌, ◌*◌, ◌^◌, ◌<◌, ℕ, ℤ, pos, negsuc, ◌+ℤ◌, ◌-ℤ◌, ◌*ℤ◌, ◌≤ℤ◌, List, [], ◌∷◌, ◌++◌, length, get_or, Option, Some, None, IsSomeAnd, inl, inr, refl, sym, ◌∙◌, ap, subst, arith, nat_abs, ints, slice_get_within, slice_get-get_or, Circuit, Tech, least_delay, greatest_delay, IsPath, setup_spare, hold_spare, IsLeastSpare, IsSlackOf, IsSlack, AreSlacks, AreSmallSlacks, moved, pushed_cases, kept, IsBelow, IsWithin, setup_ticks, hold_ticks, IsTicks, IsSlackAt, AreSlacksBefore}
 use Rattle.std.proofs.lemmas.List.{length_push}
 use Rattle.std.proofs.lemmas.List.Elements.{All-push}
 use Rattle.cts_base.specs.declared.fraction.Fraction.{Fraction}
@@ -8,6 +8,17 @@ use Rattle.cts_model.specs.declared.schedule.Slack.{Slack}
 use Rattle.cts_model.specs.Vocabulary.{arrival_of}
 use Rattle.path_delays.specs.declared.window.Window.{Window}
 use Rattle.path_delays.specs.Windows.{window_along, IsHull, IsHullIfAny, ComesTo, AreWindows}
+
+-- of two times, and ticks after the one
+module _ (from ticks to : ℤ) (early : IsBelow (2 * 10 ^ 19) from)
+    (few : IsWithin 0 4097000000 ticks) (late : IsBelow (3 * 10 ^ 19) to) where
+  -- what is left until the other is small
+  pub left_small : IsBelow (10 ^ 20) (to -ℤ (from +ℤ ticks))
+  left_small = record { above = omega (arith, ints); below = omega (arith, ints) }
+
+  -- and is what the code computes
+  pub left_is : kept (kept to -ℤ kept (kept from +ℤ kept ticks)) ≡ to -ℤ (from +ℤ ticks)
+  left_is = omega (arith, ints)
 
 -- a number from 1 on is its size
 size_is : (den : ℤ) → pos 1 ≤ℤ den → pos (nat_abs den) ≡ den

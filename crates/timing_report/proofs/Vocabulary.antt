@@ -1,5 +1,5 @@
 -- The words that the proofs of this crate have in common.
-pub use Rattle.std.proofs.Common.{ℕ, ◌≡◌, ◌<◌, Bool, true, false, Some, None, List, length, get_or, All, sym, ◌∙◌, ap, arith, inl, inr, ℤ, ◌≤ℤ◌, ◌<ℤ◌, subst, ◌+ℤ◌, ◌≤◌, ◌+◌, if◌then◌else◌, refl, pos, negsuc, ◌*ℤ◌, [], ◌∷◌, ◌++◌, Option, IsSomeAnd, ◌-ℤ◌, ◌^◌}
+pub use Rattle.std.proofs.Common.{ℕ, ◌≡◌, ◌<◌, Bool, true, false, Some, None, List, length, get_or, All, sym, ◌∙◌, ap, arith, inl, inr, ℤ, ◌≤ℤ◌, ◌<ℤ◌, subst, ◌+ℤ◌, ◌≤◌, ◌+◌, if◌then◌else◌, refl, pos, negsuc, ◌*ℤ◌, [], ◌∷◌, ◌++◌, Option, IsSomeAnd, ◌-ℤ◌, ◌*◌, ◌^◌}
 pub use Rattle.std.proofs.lemmas.Bool.{cases_lt}
 pub use Rattle.std.proofs.lemmas.Int.{ints}
 pub use Rattle.std.proofs.lemmas.Option.{slice_get_within, slice_get-get_or, get_or_from_slice_get}
@@ -7,7 +7,8 @@ pub use Rattle.std.specs.Prelude.{int_lt, find, nat_abs}
 pub use Rattle.cts_model.specs.declared.circuit.Circuit.{Circuit}
 pub use Rattle.cts_model.specs.declared.tech.Tech.{Tech}
 pub use Rattle.cts_model.specs.declared.timing.PairDelay.{PairDelay}
-pub use Rattle.cts_model.specs.Vocabulary.{IsPath, least_delay, greatest_delay, IsSmallPair, ListsPairs, HasSmallDelays, setup_spare, hold_spare, IsLeastSpare, IsSlackOf, IsSlack, AreSlacks, AreSmallSlacks}
-pub use Rattle.path_delays.proofs.WindowLemmas.{moved, pushed_cases, kept_time, kept_ticks}
+pub use Rattle.cts_model.specs.table.Tables.{IsWithin}
+pub use Rattle.cts_model.specs.Vocabulary.{IsPath, least_delay, greatest_delay, IsBelow, IsSmallPair, ListsPairs, HasSmallDelays, setup_spare, hold_spare, IsLeastSpare, IsSlackOf, IsSlack, AreSlacks, AreSmallSlacks}
+pub use Rattle.path_delays.proofs.WindowLemmas.{moved, pushed_cases, kept, kept_time, kept_ticks}
 pub use Rattle.timing_report.specs.ListedPairs.{IsFirstOf, IsTooQuick, IsMostDelayed, IsEnoughForAll, IsFloorForAll, IsMostNeeded, Needs, IsZeroSkewOf}
 pub use Rattle.timing_report.specs.SpareTicks.{setup_ticks, hold_ticks, IsTicks, IsSlackAt, AreSlacksBefore}
