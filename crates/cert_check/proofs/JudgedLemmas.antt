@@ -1,6 +1,6 @@
 -- Judgements one after the other: what is left where all before hold, and that all hold where a
 -- report is shown.
-use Rattle.cert_check.proofs.Vocabulary.{◌≡◌, ◌⊎◌, ℕ, ap, inl, inr, refl, IsErrAnd, Result, Ok, Err, Problem, Report, AtEach, IsShown, IsShownTiming, IsShownTree, sinks_in, source_in, Reason, Stop, At, NoMemory, Shown, Not, Decides, Judged, JudgedOnce, Judges, JudgesOnce, JudgedTree, IsVerdict}
+use Rattle.cert_check.proofs.Vocabulary.{◌≡◌, ◌⊎◌, ◌↔◌, ℕ, List, ap, subst, inl, inr, refl, IsErrAnd, Result, Ok, Err, Constraint, Sink, Uv, Problem, Report, AtEach, cycle_of, IsShown, IsShownTiming, IsShownTree, sinks_in, source_in, Reason, Stop, At, NoMemory, Shown, Not, Decides, Judged, JudgedOnce, Judges, JudgesOnce, JudgedTree, IsVerdict, IsVerdictBy}
 use Rattle.cert_check.specs.declared.judge.Judge.{Judge}
 use Rattle.cert_check.specs.declared.verdict.Verdict.{Verdict}
 use Rattle.cert_check.proofs.FirstPlaces.{passed_on}
@@ -118,10 +118,21 @@ stops_places places Holds reason Next IsVerdict result NoMemory is none after =
 pub passed : {Fails Holds Next : Type 0} → Holds → Next → Fails ⊎ (Holds × Next)
 passed holds next = inr (holds, next)
 
+-- the cycle, the sinks and the source are those that the report has
+pub told : (problem : Problem) (report : Report) {cycle : List Constraint} {sinks : List Sink}
+    {source : Uv} (result : Result (Unit {0}) Stop) → cycle ≡ cycle_of report.shown
+    → sinks ≡ sinks_in problem report → source ≡ source_in problem report
+    → Decides (IsVerdictBy problem report cycle sinks source) result
+    → Decides (IsVerdict problem report) result
+told problem report result cycle_is sinks_are source_is =
+    subst (λ (has : List Constraint × List Sink × Uv).
+    Decides (IsVerdictBy problem report has.0 has.1 has.2) result)
+    (λ i. (cycle_is i, sinks_are i, source_is i))
+
 module _ (problem : Problem) (report : Report) {verdict : Verdict}
     (judged : IsVerdict problem report verdict) where
   -- where each judgement holds, the verdict is that the report is shown
-  pub verdict_shown : IsShown problem report → verdict ≡ Shown
+  verdict_shown : IsShown problem report → verdict ≡ Shown
   verdict_shown shown =
       let timing : IsShownTiming problem.circuit problem.tech report = shown.timing in
       let tree : IsShownTree (sinks_in problem report) (source_in problem report) report =
@@ -182,3 +193,13 @@ module _ (problem : Problem) (report : Report) {verdict : Verdict}
           earliest = λ register within. led register within second;
         };
       }
+
+  pub exactly_shown : (verdict ≡ Shown) ↔ IsShown problem report
+  exactly_shown = (shown_verdict, verdict_shown)
+
+  -- and what is the same as that
+  pub exactly_said : {Said : Type 0} → IsShown problem report ↔ Said → (verdict ≡ Shown) ↔ Said
+  exactly_said law = (
+    λ is. law.0 (shown_verdict is),
+    λ said. verdict_shown (law.1 said),
+  )

@@ -1,5 +1,5 @@
 -- Lists of parents, as they are filled merge by merge.
-use Rattle.cert_check.proofs.Vocabulary.{◌≡◌, ◌⊎◌, ◌<◌, ◌≤◌, ◌+◌, ◌*◌, ℕ, List, length, set, Some, inl, inr, refl, sym, ap, subst, ◌∙◌, arith, slice_get, cases_lt, get_or_default, get_or-set_same, get_or-set_other, length-set, slice_get_within, Merge, IsParent, IsTopology, Joins, root_of, source_of, has_parent, joined_by, made_parent, one_parent, parent_stands, first_made, second_made, some_and, AreParents, parent_at}
+use Rattle.cert_check.proofs.Vocabulary.{◌≡◌, ◌⊎◌, ◌<◌, ◌≤◌, ◌+◌, ◌*◌, ℕ, List, length, set, Some, inl, inr, refl, sym, ap, subst, ◌∙◌, arith, slice_get, cases_lt, get_or_default, get_or-set_same, get_or-set_other, length-set, slice_get_within, merge_at, merge_here, Merge, IsParent, IsTopology, Joins, root_of, source_of, has_parent, joined_by, made_parent, one_parent, parent_stands, first_made, second_made, some_and, AreParents, parent_at}
 
 -- there is an entry for each node but the source, and the nodes have theirs whose parents are made
 -- before a place
@@ -12,7 +12,7 @@ pub record AreParentsBefore (sinks : ℕ) (merges : List Merge) (place next : �
 
 module _ {sinks : ℕ} {merges : List Merge} (topology : IsTopology sinks merges) where
   -- there is an entry for each node that a merge joins
-  pub entries_low : (place next : ℕ) (merge : Merge) (parents : List ℕ)
+  entries_low : (place next : ℕ) (merge : Merge) (parents : List ℕ)
       → slice_get merges place ≡ Some merge → AreParentsBefore sinks merges place next parents
       → (merge.first < length parents) × (merge.second < length parents)
   entries_low place next merge parents here before =
@@ -20,6 +20,13 @@ module _ {sinks : ℕ} {merges : List Merge} (topology : IsTopology sinks merges
       let two = second_made sinks merges topology.each place merge here in
       let within = slice_get_within merges place merge here in
       (omega (arith, topology.all, before.all), omega (arith, topology.all, before.all))
+
+  pub entries_here : {place next : ℕ} {parents : List ℕ} → place < length merges
+      → AreParentsBefore sinks merges place next parents
+      → ((merge_at merges place).first < length parents)
+      × ((merge_at merges place).second < length parents)
+  entries_here {place = place} {next = next} {parents = parents} within =
+      entries_low place next (merge_at merges place) parents (merge_here merges place within)
 
   -- one more merge
   pub parents_more : (place next : ℕ) (merge : Merge) (parents : List ℕ)

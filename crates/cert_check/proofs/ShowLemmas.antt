@@ -1,5 +1,5 @@
 -- Shows and sinks as they are read from lists.
-use Rattle.cert_check.proofs.Vocabulary.{◌≡◌, ◌↔◌, ◌<◌, ◌≤◌, ◌^◌, ℕ, ℤ, pos, ◌+ℤ◌, Bool, IsTrue, List, length, get_or, to_z, of_z, subst, ◌∙◌, arith, w128, IsSomeAnd, slice_get, ints, to_z-of_z, slice_get-get_or, Sink, Uv, IsBelow, span, ShowsSource}
+use Rattle.cert_check.proofs.Vocabulary.{◌≡◌, ◌↔◌, ◌<◌, ◌≤◌, ◌^◌, ℕ, ℤ, pos, ◌+ℤ◌, Bool, IsTrue, List, Some, length, get_or, to_z, of_z, subst, sym, arith, w128, IsSomeAnd, slice_get, ints, to_z-of_z, slice_get-get_or, Sink, IsBelow, span}
 use Rattle.std.specs.List.{All}
 use Rattle.cts_model.specs.declared.tree.Show.{Show}
 
@@ -26,21 +26,13 @@ denotes_span sinks reach first second default test low also_low denotes =
     (denotes_found (λ other. reach +ℤ reach ≡ span (get_or sinks first default) other) sinks second
     default test also_low denotes)
 
--- what is said of the source's show, as it is read
-pub denotes_source : (sinks : List Sink) (source : Uv) (place : ℕ) (list other : List Show)
-    → other ≡ list → place < length list → (root reach top number : ℤ) → top ≡ root
-    → number ≡ reach → (default : Show) (test : Bool)
-    → IsTrue test ↔ ShowsSource sinks source top number (get_or other place default)
-    → IsTrue test ↔ IsSomeAnd (slice_get list place) (ShowsSource sinks source root reach)
-denotes_source sinks source place list other same within root reach top number root_is reach_is
-    default test denotes =
-    let read = subst (λ list. IsTrue test ↔ ShowsSource sinks source top number
-    (get_or list place default)) same denotes in
-    let at_root = subst (λ z. IsTrue test ↔ ShowsSource sinks source z number
-    (get_or list place default)) root_is read in
-    denotes_found (ShowsSource sinks source root reach) list place default test within
-    (subst (λ z. IsTrue test ↔ ShowsSource sinks source root z (get_or list place default))
-    reach_is at_root)
+-- what a test says of the show that is found at a place, it says of that place
+pub denotes_show : (Holds : Show → Type 0) (shows : List Show) (place other : ℕ) {show : Show}
+    (test : Bool) → place ≡ other → slice_get shows place ≡ Some show → IsTrue test ↔ Holds show
+    → IsTrue test ↔ IsSomeAnd (slice_get shows other) Holds
+denotes_show Holds shows place other test same found denotes =
+    subst (λ place. IsTrue test ↔ IsSomeAnd (slice_get shows place) Holds) same
+    (subst (λ show. IsTrue test ↔ IsSomeAnd show Holds) (sym found) denotes)
 
 -- a number of a list, as the code keeps it
 pub kept_at : (list other : List ℤ) (place : ℕ) → other ≡ list → All (IsBelow (10 ^ 32)) list

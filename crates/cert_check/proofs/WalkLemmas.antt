@@ -32,20 +32,20 @@ module _ (circuit : Circuit) (tech : Tech) (greatest : Bool) where
     pub below : sum ≤ℤ pos (place * 2 ^ 64)
 
   -- one gate more
-  pub sum_next : (gates : List ℕ) (place d : ℕ) (sum result more : ℤ) → place < length gates
+  pub sum_next : (gates : List ℕ) (place d : ℕ) (sum more : ℤ) → place < length gates
       → IsBelow (2 ^ 64)
       (gate_delay_by greatest tech (slice_get circuit.signals (get_or gates place d)))
-      → result ≡ sum
+      → more ≡ sum
       +ℤ gate_delay_by greatest tech (slice_get circuit.signals (get_or gates place d))
-      → more ≡ result → IsSumBy gates place sum → IsSumBy gates (place + 1) more
-  sum_next gates place d sum result more within small next kept by =
+      → IsSumBy gates place sum → IsSumBy gates (place + 1) more
+  sum_next gates place d sum more within small next by =
       let gate = get_or gates place d in
       let left = ap (through_by greatest circuit tech) (rest_is gates place d within)
       ∙ through-cons gate (drop (place + 1) gates) in
       record {
-        is = joined sum more _ _ _ _ left (kept ∙ next) by.is;
-        above = omega (arith, ints, kept, next, small.above, by.above);
-        below = omega (arith, ints, kept, next, small.below, by.below);
+        is = joined sum more _ _ _ _ left next by.is;
+        above = omega (arith, ints, next, small.above, by.above);
+        below = omega (arith, ints, next, small.below, by.below);
       }
     where
       joined : (sum more left its rest all : ℤ) → left ≡ its +ℤ rest → more ≡ sum +ℤ its

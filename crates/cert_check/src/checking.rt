@@ -4,7 +4,7 @@ ghost use Rattle.cert_check.specs.Vocabulary.{IsLevelsOf, Verdict, Decides, HasP
 
 use crate::Verdict;
 use crate::judge::Judge;
-use crate::shaped::{ShapedTree, parents_of};
+use crate::shaped::ShapedTree;
 use crate::verdict::Stop;
 use cts_base::NoMemory;
 use cts_model::{Constraint, Grid, PeriodShow, Problem, Report, Slack, laws};
@@ -35,26 +35,15 @@ pub fn check(alloc: Global, problem: &Problem, report: &Report) -> Result<Verdic
         (λ verdict. verdict ≡ Verdict.Shown → ShowsLeast problem.now report.now) }
 {
     laws::reports();
-    match judge_report(alloc, problem, report) {
-        Ok(()) => Ok(Verdict::Shown),
-        Err(Stop::At(reason)) => Ok(Verdict::Not(reason)),
-        Err(Stop::NoMemory) => Err(NoMemory),
-    }
-}
-
-// What stops the judgement of a report.
-fn judge_report(alloc: Global, problem: &Problem, report: &Report) -> Result<(), Stop>
-    requires size { IsOfSize problem.now.circuit report.now }
-    requires bounds { IsWithinBounds problem.now.tech report.now }
-    ensures { Decides (IsVerdict problem.now report.now) result }
-{
+    let (circuit, tech) = (&problem.circuit, &problem.tech);
+    let schedule = &report.schedule;
     let levels = levels_of(alloc, problem)?;
     let grid = Grid {
         period: report.period,
-        tech: &problem.tech,
+        tech,
     };
     let places = problem.places.registers.as_slice();
-    let sinks = grid.sinks(alloc, places, report.schedule.at.as_slice())?;
+    let sinks = grid.sinks(alloc, places, schedule.at.as_slice())?;
     let judge = Judge {
         problem,
         report,
@@ -62,16 +51,13 @@ fn judge_report(alloc: Global, problem: &Problem, report: &Report) -> Result<(),
         sinks: sinks.as_slice(),
         source: grid.rotated(problem.places.source),
     };
-    let slacks = slacks(
-        alloc,
-        &problem.circuit,
-        &levels,
-        &problem.tech,
-        &report.schedule,
-        report.period,
-    )?;
-    let mut paths = Paths::new(alloc, &problem.circuit, &levels, &problem.tech)?;
-    judge_all(alloc, &judge, &mut paths, slacks.as_slice())
+    let slacks = slacks(alloc, circuit, &levels, tech, schedule, report.period)?;
+    let mut paths = Paths::new(alloc, circuit, &levels, tech)?;
+    match judge_all(alloc, &judge, &mut paths, slacks.as_slice()) {
+        Ok(()) => Ok(Verdict::Shown),
+        Err(Stop::At(reason)) => Ok(Verdict::Not(reason)),
+        Err(Stop::NoMemory) => Err(NoMemory),
+    }
 }
 
 // All judgements, in their order.
@@ -90,7 +76,7 @@ fn judge_all(alloc: Global, judge: &Judge, paths: &mut Paths, slacks: &[Slack]) 
     let merges = judge.report.topology.merges.as_slice();
     let tree = ShapedTree {
         judge: *judge,
-        parents: parents_of(alloc, judge.sinks.len(), merges)?,
+        parents: judge.parents_of(alloc, merges)?,
     };
     judge_tree(alloc, &tree)?;
     judge.judge_slacks(slacks)?;

@@ -1,60 +1,54 @@
-ghost use Rattle.std.specs.Prelude.{◌≡◌, ◌≤◌, ◌^◌, All, IsTrue, Some, drop, length, slice_get, if◌then◌else◌, ◌+ℤ◌};
+ghost use Rattle.std.specs.Prelude.{◌≡◌, ◌<◌, ◌≤◌, ◌^◌, All, IsTrue, Some, length, slice_get, slice_index_or, if◌then◌else◌};
+ghost use Rattle.std.proofs.Props.{props};
 ghost use Rattle.cts_model.specs.Vocabulary.{is_gate, is_valid, IsGate, IsBelow};
 ghost use Rattle.cts_model.specs.table.Tables.{IsWithin};
-ghost use Rattle.cert_check.specs.Vocabulary.{delay_by, gate_delay_by, through_by};
+ghost use Rattle.cert_check.specs.Vocabulary.{gate_delay_by, through_by};
 
 use crate::item::item_at;
 use cts_model::{Circuit, Signal, Tech};
 
-/// The greatest or the least delay of a path, in ticks.
-pub(crate) fn path_delay(circuit: &Circuit, tech: &Tech, path: &[u32], greatest: bool) -> i128
-    requires gates { All (IsGate circuit.now.signals) (drop 1 path.now) }
-    requires few { length path.now ≤ 65536 }
-    ensures value { result ≡ delay_by greatest circuit.now tech.now path.now }
-    ensures small { IsBelow (10 ^ 25) result }
-{
-    match path {
-        [] => register_delay(tech, greatest),
-        [_, gates @ ..] => {
-            register_delay(tech, greatest) + through(circuit, tech, gates, greatest)
+/// The gates that a path goes through, and the delays of a table.
+#[derive(Clone, Copy)]
+pub(crate) struct Gates<'a> {
+    pub(crate) circuit: &'a Circuit,
+    pub(crate) tech: &'a Tech,
+    pub(crate) gates: &'a [u32],
+    pub(crate) ghost each: { All (IsGate circuit.now.signals) gates.now } by { Prim.hlevel props },
+    pub(crate) ghost few: { length gates.now ≤ 65536 },
+}
+
+impl Gates<'_> {
+    /// Their greatest or their least delays, added up.
+    pub(crate) fn through(&self, greatest: bool) -> i128
+        ensures value { result ≡ through_by greatest self.now.circuit.now self.now.tech.now
+            self.now.gates.now }
+        ensures small { IsBelow (2 ^ 81) result }
+    {
+        let mut sum = 0;
+        for place in 0..self.gates.len() {
+            sum += i128::from(self.delay_at(place, greatest));
         }
+        sum
+    }
+
+    // The greatest or the least delay of the gate at a place.
+    fn delay_at(&self, place: usize, greatest: bool) -> i64
+        requires { place < length self.now.gates.now }
+        ensures { result ≡ gate_delay_by greatest self.now.tech.now
+            (slice_get self.now.circuit.now.signals (slice_index_or self.now.gates.now place 0)) }
+    {
+        let gate = self.gates[place] as usize;
+        let signal = item_at(self.circuit.signals.as_slice(), gate);
+        gate_delay(self.tech, signal, greatest)
     }
 }
 
-// The greatest or the least delay of a register.
-fn register_delay(tech: &Tech, greatest: bool) -> i128
+/// The greatest or the least delay of a register.
+pub(crate) fn register_delay(tech: &Tech, greatest: bool) -> i128
     ensures value { result ≡ (if greatest then tech.now.greatest else tech.now.least) }
     ensures small { IsWithin 0 1000000 result }
 {
     if greatest { tech.greatest } else { tech.least }
-}
-
-// The greatest or the least delays of gates, added up.
-fn through(circuit: &Circuit, tech: &Tech, gates: &[u32], greatest: bool) -> i128
-    requires gates { All (IsGate circuit.now.signals) gates.now }
-    requires few { length gates.now ≤ 65536 }
-    ensures value { result ≡ through_by greatest circuit.now tech.now gates.now }
-    ensures small { IsBelow (2 ^ 81) result }
-{
-    let mut sum = 0;
-    for gate in gates {
-        sum = added(circuit, tech, sum, *gate, greatest);
-    }
-    sum
-}
-
-// A sum and the delay of one gate more.
-fn added(circuit: &Circuit, tech: &Tech, sum: i128, gate: u32, greatest: bool) -> i128
-    requires sum { IsBelow (2 ^ 81) sum }
-    requires gate { IsGate circuit.now.signals gate }
-    ensures value { result
-        ≡ sum +ℤ gate_delay_by greatest tech.now (slice_get circuit.now.signals gate) }
-    ensures delay { IsBelow (2 ^ 64)
-        (gate_delay_by greatest tech.now (slice_get circuit.now.signals gate)) }
-    ensures small { IsBelow (2 ^ 82) result }
-{
-    let signal = item_at(circuit.signals.as_slice(), gate as usize);
-    sum + i128::from(gate_delay(tech, signal, greatest))
 }
 
 // The greatest or the least delay of a gate.

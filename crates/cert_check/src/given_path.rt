@@ -1,9 +1,9 @@
 ghost use Rattle.std.specs.Prelude.{◌≡◌, ◌⊎◌, ◌<◌, ◌≤◌, ◌↔◌, ◌^◌, [], All, IsTrue, drop, length};
 ghost use Rattle.cts_model.specs.declared.report.Version.TheVariants.{Second};
 ghost use Rattle.cts_model.specs.Vocabulary.{GivesWeight, IsGate, IsBelow};
-ghost use Rattle.cert_check.specs.Vocabulary.{pair_of, path_weight, PathBroken, Judges, GivenPath};
+ghost use Rattle.cert_check.specs.Vocabulary.{delay_by, pair_of, path_weight, PathBroken, Judges, GivenPath};
 
-use crate::delay::path_delay;
+use crate::delay::{Gates, register_delay};
 use crate::item::item_at;
 use crate::judge::Judge;
 use crate::of_circuit::pair_of;
@@ -87,11 +87,32 @@ impl ShownPath<'_> {
         ensures small { IsBelow (10 ^ 38) result }
     {
         let setup = self.constraint.setup;
-        let delay = path_delay(self.circuit, self.tech, self.path, setup);
+        let delay = self.delay(setup);
         if setup {
             delay + self.tech.setup
         } else {
             self.tech.hold - delay
+        }
+    }
+
+    // The greatest or the least delay of the path, in ticks.
+    fn delay(&self, greatest: bool) -> i128
+        requires { All (IsGate self.now.circuit.now.signals) (drop 1 self.now.path.now) }
+        ensures value { result ≡ delay_by greatest self.now.circuit.now self.now.tech.now
+            self.now.path.now }
+        ensures small { IsBelow (10 ^ 25) result }
+    {
+        let first = register_delay(self.tech, greatest);
+        match self.path {
+            [] => first,
+            [_, gates @ ..] => {
+                let gates = Gates {
+                    circuit: self.circuit,
+                    tech: self.tech,
+                    gates,
+                };
+                first + gates.through(greatest)
+            }
         }
     }
 }

@@ -1,5 +1,5 @@
 ghost use Rattle.std.specs.Prelude.{◌≡◌, ◌≤◌, ◌^◌, All, length};
-ghost use Rattle.cts_model.specs.Vocabulary.{IsBelow, IsUvBelow, HasSmallWeight, HasSmallWeights, HasTreeBounds, IsBetweenRegisters, IsOfSize, IsSmallLead, cycle_length, IsSmallPeriod, leads_prop, size_prop, tree_prop, weights_prop};
+ghost use Rattle.cts_model.specs.Vocabulary.{IsBelow, IsUvBelow, HasSmallWeight, HasSmallWeights, HasTreeBounds, IsBetweenRegisters, IsOfSize, IsSmallLead, cycle_of, IsSmallPeriod, leads_prop, size_prop, tree_prop, weights_prop};
 ghost use Rattle.cert_check.specs.SmallSinks.{IsSmallSink};
 
 use cts_model::{Constraint, Problem, Report, Sink, Uv};
@@ -26,7 +26,7 @@ pub(crate) struct Judge<'a> {
         cycle.now },
     pub(crate) ghost light: { All HasSmallWeight cycle.now },
     pub(crate) ghost short: { length cycle.now ≤ 9999 },
-    pub(crate) ghost long: { length cycle.now ≡ cycle_length report.now.shown },
+    pub(crate) ghost shown: { cycle.now ≡ cycle_of report.now.shown },
     pub(crate) ghost count: { length sinks.now ≡ length problem.now.circuit.registers },
     pub(crate) ghost few: { length sinks.now ≤ 4097 },
     pub(crate) ghost small: { All IsSmallSink sinks.now },

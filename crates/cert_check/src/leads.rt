@@ -1,11 +1,11 @@
-ghost use Rattle.std.specs.Prelude.{◌≡◌, ◌<◌, ◌≤◌, ◌↔◌, ◌^◌, ◌∷◌, [], IfOk, IsTrue, length};
+ghost use Rattle.std.specs.Prelude.{◌≡◌, ◌<◌, ◌≤◌, ◌+◌, ◌↔◌, ◌^◌, ◌∷◌, [], IfOk, IsTrue, length};
 ghost use Rattle.cts_model.specs.declared.report.Version.TheVariants.{Second};
-ghost use Rattle.cts_model.specs.Vocabulary.{IsConstraintOf, count_of, IsLedBy, IsTight, depth_of, lead_at, IsBelow, IsSmallLead, LeadsAmong, arrival_of};
+ghost use Rattle.cts_model.specs.Vocabulary.{count_of, IsLedBy, IsTight, depth_of, lead_at, IsBelow, IsSmallLead, LeadsAmong, arrival_of};
 ghost use Rattle.cert_check.specs.Vocabulary.{Earliest, HasPaths, FitsLeads, IsTested, constraint_of, tight_constraints, NotLeast, Judges};
 
 use crate::down::are_same;
 use crate::judge::Judge;
-use crate::period::{asked, count_of};
+use crate::period::count_of;
 use crate::verdict::{Reason, Stop};
 use cts_base::NoMemory;
 use cts_model::{Constraint, Lead};
@@ -50,27 +50,25 @@ impl Judge<'_> {
         match self.lead(register) {
             Lead::Zero => arrival == 0,
             Lead::Tight { depth, constraint } => {
-                arrival >= 0 && self.is_led(register, depth, &constraint, given)
+                arrival >= 0 && self.is_led(register, depth - 1, &constraint, given)
             }
         }
     }
 
-    // Whether a tight constraint leads to a register, and takes so many, where a test says whether
-    // it is one of the circuit.
-    fn is_led(&self, register: usize, depth: u32, constraint: &Constraint, given: bool) -> bool
-        requires fits { FitsLeads (length self.now.report.now.leads)
+    // Whether a tight constraint leads to a register from one whose lead takes so many, where a
+    // test says whether it is one of the circuit.
+    fn is_led(&self, register: usize, before: u32, constraint: &Constraint, given: bool) -> bool
+        requires { FitsLeads (length self.now.report.now.leads)
             (length self.now.report.now.schedule.at) constraint.now }
-        requires given { IsTrue given ↔ IsConstraintOf self.now.problem.now.circuit
-            self.now.problem.now.tech constraint.now }
-        ensures { IsTrue result ↔ IsLedBy (IsConstraintOf self.now.problem.now.circuit
-            self.now.problem.now.tech) self.now.report.now.period self.now.report.now.schedule.at
-            self.now.report.now.leads register depth constraint.now }
+        ensures { IsTrue result ↔ IsLedBy (λ _. IsTrue given) self.now.report.now.period
+            self.now.report.now.schedule.at self.now.report.now.leads register (1 + before)
+            constraint.now }
     {
-        let before = depth_of(self.lead(constraint.tail as usize));
+        let last = self.lead(constraint.tail as usize);
         given
             && constraint.head as usize == register
             && self.is_tight(constraint)
-            && depth == 1 + before
+            && depth_of(last) == before
     }
 
     // The lead of a register.
@@ -94,7 +92,7 @@ impl Judge<'_> {
     {
         let head = self.arrival(constraint.head as usize);
         let tail = self.arrival(constraint.tail as usize);
-        let asked = asked(self.report.period, constraint.weight, count_of(constraint));
+        let asked = self.asked(constraint.weight, count_of(constraint));
         are_same(head - tail, asked)
     }
 
@@ -143,9 +141,7 @@ fn constraint_count(lead: Lead) -> usize
 
 // How many constraints a lead takes.
 fn depth_of(lead: Lead) -> u32
-    requires { IsSmallLead lead }
-    ensures value { result ≡ depth_of lead }
-    ensures small { result ≤ 9999 }
+    ensures { result ≡ depth_of lead }
 {
     match lead {
         Lead::Zero => 0,

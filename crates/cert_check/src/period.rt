@@ -5,7 +5,6 @@ ghost use Rattle.cert_check.specs.Vocabulary.{BelowFloor, CycleValue, JudgesOnce
 use crate::down::are_same;
 use crate::judge::Judge;
 use crate::verdict::{Reason, Stop};
-use cts_base::Fraction;
 use cts_model::{Constraint, PeriodShow, product};
 
 impl Judge<'_> {
@@ -41,38 +40,38 @@ impl Judge<'_> {
     {
         let period = self.report.period;
         match &self.report.shown {
-            PeriodShow::Cycle(cycle) => is_worth(cycle.as_slice(), period),
-            PeriodShow::Floor => period.num() == self.problem.tech.floor && period.den() == 1,
+            PeriodShow::Cycle(_) => self.is_worth(),
+            PeriodShow::Floor => period.num() == self.problem.tech.floor
+                && are_same(period.den(), 1),
         }
     }
-}
 
-// Whether a cycle counts the period, and its weights sum to that count of it.
-fn is_worth(cycle: &[Constraint], period: Fraction) -> bool
-    requires few { length cycle.now ≤ 9999 }
-    requires small { All HasSmallWeight cycle.now }
-    requires period { IsSmallPeriod period }
-    ensures { IsTrue result ↔ ((pos 1 ≤ℤ pos (total_count cycle.now)) × ((period.den
-        *ℤ total_weight cycle.now) ≡ (period.num *ℤ pos (total_count cycle.now)))) }
-{
-    let mut weight = 0;
-    let mut count = 0;
-    for constraint in cycle {
-        weight += constraint.weight;
-        count += count_of(constraint);
+    // Whether the cycle counts the period, and its weights sum to that count of it.
+    fn is_worth(&self) -> bool
+        ensures { IsTrue result ↔ ((pos 1 ≤ℤ pos (total_count self.now.cycle.now))
+            × ((self.now.report.now.period.den *ℤ total_weight self.now.cycle.now)
+            ≡ (self.now.report.now.period.num *ℤ pos (total_count self.now.cycle.now)))) }
+    {
+        let mut weight = 0;
+        let mut count = 0;
+        for constraint in self.cycle {
+            weight += constraint.weight;
+            count += count_of(constraint);
+        }
+        count >= 1 && are_same(self.asked(weight, count), 0)
     }
-    count >= 1 && are_same(asked(period, weight, count), 0)
-}
 
-/// How much later a weight and so many periods ask an arrival to be, in ticks over the period's
-/// denominator.
-pub(crate) fn asked(period: Fraction, weight: i128, count: i128) -> i128
-    requires period { IsSmallPeriod period }
-    requires weight { IsBelow (10 ^ 16) weight }
-    requires count { IsBelow (10 ^ 16) count }
-    ensures { result ≡ (period.den *ℤ weight) -ℤ (period.num *ℤ count) }
-{
-    product(period.den(), weight) - product(period.num(), count)
+    /// How much later a weight and so many periods ask an arrival to be, in ticks over the period's
+    /// denominator.
+    pub(crate) fn asked(&self, weight: i128, count: i128) -> i128
+        requires weight { IsBelow (10 ^ 16) weight }
+        requires count { IsBelow (10 ^ 16) count }
+        ensures { result ≡ (self.now.report.now.period.den *ℤ weight)
+            -ℤ (self.now.report.now.period.num *ℤ count) }
+    {
+        let period = self.report.period;
+        product(period.den(), weight) - product(period.num(), count)
+    }
 }
 
 /// How often a constraint counts the period.

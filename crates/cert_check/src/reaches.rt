@@ -60,9 +60,9 @@ impl ShapedTree<'_> {
             result }
     {
         let sinks = self.judge.sinks.len();
-        for node in sinks..2 * sinks {
-            if !self.is_reach_shown(node) {
-                return Err(Stop::At(Reason::Unshown(node as u32)));
+        for place in 0..sinks {
+            if !self.is_reach_shown(place) {
+                return Err(Stop::At(Reason::Unshown((sinks + place) as u32)));
             }
         }
         Ok(())

@@ -15,11 +15,7 @@ impl Judge<'_> {
             self.now.report.now.topology.merges) }
     {
         self.judge_sinks()?;
-        judge_merges(
-            alloc,
-            self.sinks.len(),
-            self.report.topology.merges.as_slice(),
-        )?;
+        self.judge_merges(alloc)?;
         self.judge_source()
     }
 
@@ -32,6 +28,27 @@ impl Judge<'_> {
             if !self.stands(register, self.sinks[register].at) {
                 return Err(Stop::At(Reason::TreeShape(register as u32)));
             }
+        }
+        Ok(())
+    }
+
+    // Whether each of the merges joins two nodes that are there and that none before it joined, the
+    // lower number first.
+    fn judge_merges(&self, alloc: Global) -> Result<(), Stop>
+        ensures { Judges (length self.now.report.now.topology.merges)
+            (JoinsAt (length self.now.sinks.now) self.now.report.now.topology.merges)
+            (λ place. TreeShape (length self.now.sinks.now + place)) result }
+    {
+        let sinks = self.sinks.len();
+        let merges = self.report.topology.merges.as_slice();
+        let mut joined = vec![in alloc; false; 2 * sinks]?;
+        for place in 0..merges.len() {
+            let merge = merges[place];
+            if !is_of_unmarked(merge, sinks + place, joined.as_slice()) {
+                return Err(Stop::At(Reason::TreeShape((sinks + place) as u32)));
+            }
+            joined[merge.first as usize] = true;
+            joined[merge.second as usize] = true;
         }
         Ok(())
     }
@@ -57,26 +74,6 @@ impl Judge<'_> {
     {
         to_uv(self.report.tree.place.as_slice()[node]) == at
     }
-}
-
-// Whether each of the merges over so many sinks joins two nodes that are there and that none before
-// it joined, the lower number first.
-fn judge_merges(alloc: Global, sinks: usize, merges: &[Merge]) -> Result<(), Stop>
-    requires few { sinks ≤ 4097 }
-    requires all { length merges.now + 1 ≡ sinks }
-    ensures { Judges (length merges.now) (JoinsAt sinks merges.now)
-        (λ place. TreeShape (sinks + place)) result }
-{
-    let mut joined = vec![in alloc; false; 2 * sinks]?;
-    for place in 0..merges.len() {
-        let merge = merges[place];
-        if !is_of_unmarked(merge, sinks + place, joined.as_slice()) {
-            return Err(Stop::At(Reason::TreeShape((sinks + place) as u32)));
-        }
-        joined[merge.first as usize] = true;
-        joined[merge.second as usize] = true;
-    }
-    Ok(())
 }
 
 // Whether a merge joins two of so many nodes that aren't marked, the lower number first.

@@ -17,23 +17,22 @@ pub(crate) struct ShapedTree<'a> {
         judge.report.now.topology.merges parents.items },
 }
 
-/// The parent of each node of a topology over so many sinks, by the nodes' numbers.
-pub(crate) fn parents_of(
-    alloc: Global,
-    sinks: usize,
-    merges: &[Merge],
-) -> Result<Vec<u32>, NoMemory>
-    requires few { sinks ≤ 4097 }
-    requires topology { IsTopology sinks merges.now }
-    ensures { IfOk result (λ parents. AreParents sinks merges.now parents.items) }
-{
-    let mut parents = vec![in alloc; 0; 2 * sinks - 1]?;
-    let mut parent = sinks as u32;
-    for merge in merges {
-        parents[merge.first as usize] = parent;
-        parents[merge.second as usize] = parent;
-        parent += 1;
+impl Judge<'_> {
+    /// The parent of each node of a topology over the sinks, by the nodes' numbers.
+    pub(crate) fn parents_of(&self, alloc: Global, merges: &[Merge]) -> Result<Vec<u32>, NoMemory>
+        requires { IsTopology (length self.now.sinks.now) merges.now }
+        ensures { IfOk result
+            (λ parents. AreParents (length self.now.sinks.now) merges.now parents.items) }
+    {
+        let sinks = self.sinks.len();
+        let mut parents = vec![in alloc; 0; 2 * sinks - 1]?;
+        let mut parent = sinks as u32;
+        for merge in merges {
+            parents[merge.first as usize] = parent;
+            parents[merge.second as usize] = parent;
+            parent += 1;
+        }
+        parents[2 * sinks - 2] = parent;
+        Ok(parents)
     }
-    parents[2 * sinks - 2] = parent;
-    Ok(parents)
 }

@@ -1,5 +1,5 @@
-ghost use Rattle.std.specs.Prelude.{◌≡◌, ◌<◌, ◌≤◌, ◌+◌, ◌*◌, ◌^◌, ◌↔◌, ◌+ℤ◌, IsTrue, IsSomeAnd, length, slice_get};
-ghost use Rattle.cts_model.specs.Vocabulary.{IsBelow, IsUvBelow, apart, rotated_distance, span, ShowsAmong, number_at, IsPairShow, ShowsMerge, ShowsSource, numbers_below, root_of, source_of};
+ghost use Rattle.std.specs.Prelude.{◌≡◌, ◌<◌, ◌≤◌, ◌+◌, ◌*◌, ◌^◌, ◌↔◌, ◌+ℤ◌, IsTrue, IsSomeAnd, Some, length, slice_get};
+ghost use Rattle.cts_model.specs.Vocabulary.{IsBelow, IsUvBelow, apart, rotated_distance, span, ShowsAmong, number_at, ShowsMerge, ShowsSource, numbers_below, root_of, source_of};
 ghost use Rattle.cert_check.specs.Vocabulary.{HasReach, IsSmallSink, IsMergeShown, IsReachOver, IsSourceShown};
 
 use crate::down::{are_same, difference, sum};
@@ -9,18 +9,17 @@ use crate::shaped::ShapedTree;
 use cts_model::{Show, Sink, Uv};
 
 impl ShapedTree<'_> {
-    /// Whether the reach of a merge or of the source is that of each node below it with the length
-    /// of that one's edge, and its show gives it.
-    pub(crate) fn is_reach_shown(&self, node: usize) -> bool
-        requires above { length self.now.judge.sinks.now ≤ node }
-        requires node { node < 2 * length self.now.judge.sinks.now }
-        ensures { IsTrue result ↔ HasReach self.now.judge node }
+    /// Whether the reach of the merge at a place, or after the last of the source, is that of each
+    /// node below it with the length of that one's edge, and its show gives it.
+    pub(crate) fn is_reach_shown(&self, place: usize) -> bool
+        requires { place < length self.now.judge.sinks.now }
+        ensures { IsTrue result
+            ↔ HasReach self.now.judge (length self.now.judge.sinks.now + place) }
     {
-        let sinks = self.judge.sinks.len();
-        if node + 1 == 2 * sinks {
-            self.judge.is_source_shown()
+        if place < self.judge.report.topology.merges.len() {
+            self.is_merge_shown(place)
         } else {
-            self.is_merge_shown(node - sinks)
+            self.judge.is_source_shown()
         }
     }
 
@@ -37,7 +36,8 @@ impl ShapedTree<'_> {
             && self.shows_merge(place)
     }
 
-    // Whether the show of a merge, of its own sinks, gives its reach.
+    // Whether the show of a merge is two sinks below its node, in order, whose span is twice its
+    // reach.
     fn shows_merge(&self, place: usize) -> bool
         requires { place < length self.now.judge.report.now.topology.merges }
         ensures { IsTrue result ↔ IsSomeAnd (slice_get self.now.judge.report.now.shows place)
@@ -47,42 +47,19 @@ impl ShapedTree<'_> {
             (number_at self.now.judge.report.now.tree.reach
             (length self.now.judge.sinks.now + place))) }
     {
-        let node = self.judge.sinks.len() + place;
-        self.gives_merge(node, self.judge.report.shows.as_slice()[place])
-    }
-
-    // Whether a show, of sinks below a node, gives its reach.
-    fn gives_merge(&self, node: usize, show: Show) -> bool
-        requires node { node + 1 < 2 * length self.now.judge.sinks.now }
-        requires among { ShowsAmong (length self.now.judge.sinks.now) show }
-        ensures { IsTrue result ↔ ShowsMerge self.now.judge.sinks.now
-            (numbers_below (length self.now.judge.sinks.now)
-            self.now.judge.report.now.topology.merges node)
-            (number_at self.now.judge.report.now.tree.reach node) show }
-    {
-        match show {
-            Show::Pair(first, second) => self.is_pair(node, first, second),
+        let sinks = self.judge.sinks;
+        let node = sinks.len() + place;
+        let reach = self.judge.reach(node);
+        match self.judge.show(place) {
+            Show::Pair(first, second) => {
+                first <= second
+                    && self.has_below(node, first as usize)
+                    && self.has_below(node, second as usize)
+                    && is_half_of_span(reach, sinks[first as usize], sinks[second as usize])
+            }
             Show::Sink(_) => false,
             Show::Root => false,
         }
-    }
-
-    // Whether twice a node's reach is the span of two sinks below it, in order.
-    fn is_pair(&self, node: usize, first: u32, second: u32) -> bool
-        requires node { node + 1 < 2 * length self.now.judge.sinks.now }
-        requires first { first < length self.now.judge.sinks.now }
-        requires second { second < length self.now.judge.sinks.now }
-        ensures { IsTrue result ↔ IsPairShow self.now.judge.sinks.now
-            (numbers_below (length self.now.judge.sinks.now)
-            self.now.judge.report.now.topology.merges node)
-            (number_at self.now.judge.report.now.tree.reach node) first second }
-    {
-        let sinks = self.judge.sinks;
-        let reach = self.judge.reach(node);
-        first <= second
-            && self.has_below(node, first as usize)
-            && self.has_below(node, second as usize)
-            && is_half_of_span(reach, sinks[first as usize], sinks[second as usize])
     }
 }
 
@@ -115,7 +92,7 @@ impl Judge<'_> {
         self.report.tree.reach.as_slice()[node]
     }
 
-    // Whether the show of the source gives its reach.
+    // Whether the show of the source gives its reach: by a sink, or by the root's.
     fn shows_source(&self) -> bool
         ensures { IsTrue result ↔ IsSomeAnd
             (slice_get self.now.report.now.shows (length self.now.report.now.topology.merges))
@@ -123,21 +100,9 @@ impl Judge<'_> {
             (number_at self.now.report.now.tree.reach (root_of (length self.now.sinks.now)))
             (number_at self.now.report.now.tree.reach (source_of (length self.now.sinks.now)))) }
     {
-        let last = self.report.topology.merges.len();
-        self.gives_source(self.report.shows.as_slice()[last])
-    }
-
-    // Whether a show gives the reach of the source.
-    fn gives_source(&self, show: Show) -> bool
-        requires { ShowsAmong (length self.now.sinks.now) show }
-        ensures { IsTrue result ↔ ShowsSource self.now.sinks.now self.now.source
-            (number_at self.now.report.now.tree.reach (root_of (length self.now.sinks.now)))
-            (number_at self.now.report.now.tree.reach (source_of (length self.now.sinks.now)))
-            show }
-    {
         let nodes = 2 * self.sinks.len();
         let reach = self.reach(nodes - 1);
-        match show {
+        match self.show(self.sinks.len() - 1) {
             Show::Pair(_, _) => false,
             Show::Sink(register) => is_reach_from(
                 reach,
@@ -146,6 +111,15 @@ impl Judge<'_> {
             ),
             Show::Root => are_same(reach, self.reach(nodes - 2)),
         }
+    }
+
+    // The show at a place.
+    fn show(&self, place: usize) -> Show
+        requires { place < length self.now.sinks.now }
+        ensures found { slice_get self.now.report.now.shows place ≡ Some result }
+        ensures among { ShowsAmong (length self.now.sinks.now) result }
+    {
+        *item_at(self.report.shows.as_slice(), place)
     }
 }
 

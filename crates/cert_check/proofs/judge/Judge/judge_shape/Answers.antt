@@ -1,5 +1,5 @@
 -- The sinks, the merges and the source are all the nodes.
-use Rattle.cert_check.proofs.Vocabulary.{◌+◌, ◌*◌, length, subst, arith, Err, HasShape, AtEach, embedding_of, JoinsAt, TreeShape, Judges}
+use Rattle.cert_check.proofs.Vocabulary.{◌*◌, length, arith, HasShape, embedding_of, TreeShape, Judges}
 use Rattle.cert_check.proofs.FirstPlaces.{passed_on}
 use Rattle.cert_check.proofs.ShapeLemmas.{merges_stop, source_decides, source_topology}
 use Rattle.cert_check.proofs.judge.Judge.judge_shape.Goals as goal
@@ -14,9 +14,7 @@ returns-in_err-judge_merges-clause-shape c =
     stop c.from_residual-in_err-judge_merges.ensures.1
     (merges_stop self.sinks.now report.topology.merges self.source (embedding_of report.tree)
     (omega (arith, self.size.merges, self.count)) c.in_ok-judge_sinks.ensures stop
-    (subst (λ merges. Judges (length merges) (JoinsAt (length self.sinks.now) merges)
-    (λ place. TreeShape (length self.sinks.now + place)) {T = Unit {0}} (Err stop))
-    c.as_slice.ensures c.in_err-judge_merges.ensures))
+    c.in_err-judge_merges.ensures)
 
 pub returns-clause-shape : goal.returns-clause-shape
 returns-clause-shape c = search (arith, source_decides)
@@ -25,8 +23,6 @@ pub returns-clause-topology : goal.returns-clause-topology
 returns-clause-topology c =
     let self = c.args.self.now in
     let report = self.report.now in
-    let join = subst (λ merges. AtEach (length merges) (JoinsAt (length self.sinks.now) merges))
-    c.as_slice.ensures c.in_ok-judge_merges.ensures in
     source_topology self.sinks.now report.topology.merges self.source (embedding_of report.tree)
     (omega (arith, self.size.merges, self.count)) c.in_ok-judge_sinks.ensures
-    c.judge_source.result join c.judge_source.ensures
+    c.judge_source.result c.in_ok-judge_merges.ensures c.judge_source.ensures

@@ -1,27 +1,24 @@
 -- A merge, or the source.
-use Rattle.std.proofs.Common.{◌≡◌, ◌↔◌, ◌+◌, ◌-◌, IsTrue, length, subst, arith}
-use Rattle.cert_check.proofs.ReachLemmas.{Reached, merge_shown, source_shown}
+use Rattle.cert_check.proofs.Vocabulary.{◌+◌, length, arith}
+use Rattle.cert_check.proofs.ReachLemmas.{merge_shown, source_shown}
 use Rattle.cert_check.proofs.shaped.ShapedTree.is_reach_shown.Goals as goal
 
-pub returns-then-node-sinks : goal.returns-then-node-sinks
-returns-then-node-sinks c = search (arith, source_shown)
-
-pub returns-else-node-sinks : goal.returns-else-node-sinks
-returns-else-node-sinks c =
+pub returns-then-place-len : goal.returns-then-place-len
+returns-then-place-len c =
     let self = c.args.self.now.judge in
-    let sinks = self.sinks.now in
-    let report = self.report.now in
-    let place = c.args.node - length sinks in
-    let node : length sinks + place ≡ c.args.node = omega (arith, c.requires.above) in
-    let both = merge_shown sinks self.source report c.args.self.now.are.topology place
-    (omega (
-      arith,
-      c.requires.above,
-      c.requires.node,
-      c.if-node-sinks.false,
-      c.args.self.now.are.topology.all,
-    )) in
-    subst (λ node. IsTrue c.is_merge_shown.result ↔ Reached sinks self.source report node) node (
+    let both = merge_shown self.sinks.now self.source self.report.now c.args.self.now.are.topology
+    c.args.place (omega (arith, c.if-place-len.true, c.len.ensures)) in (
       λ holds. both.0 (c.is_merge_shown.ensures.0 holds),
       λ shown. c.is_merge_shown.ensures.1 (both.1 shown),
+    )
+
+pub returns-else-place-len : goal.returns-else-place-len
+returns-else-place-len c =
+    let self = c.args.self.now.judge in
+    let topology = c.args.self.now.are.topology in
+    let both = source_shown self.sinks.now self.source self.report.now topology
+    (length self.sinks.now + c.args.place)
+    (omega (arith, c.if-place-len.false, c.len.ensures, c.requires, topology.all)) in (
+      λ holds. both.0 (c.is_source_shown.ensures.0 holds),
+      λ shown. c.is_source_shown.ensures.1 (both.1 shown),
     )
