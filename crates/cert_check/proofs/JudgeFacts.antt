@@ -1,5 +1,5 @@
 -- What a report gives to its judge.
-use Rattle.cert_check.proofs.Vocabulary.{◌≡◌, ◌<◌, ◌≤◌, ℕ, All, length, refl, ap, ◌∙◌, arith, All-nil, First, Second, HasSmallWeight, HasSmallWeights, IsBetweenRegisters, ShowsPeriodAmong, count_in, cycle_length, cycle_of}
+use Rattle.cert_check.proofs.Vocabulary.{◌≡◌, ◌<◌, ◌≤◌, ℕ, All, length, refl, ap, ◌∙◌, arith, All-nil, First, Second, HasSmallWeight, HasSmallWeights, IsBetweenRegisters, ShowsPeriodAmong, count_in, cycle_of}
 use Rattle.cts_model.specs.declared.period.PeriodShow.{PeriodShow}
 use Rattle.cts_model.specs.declared.period.PeriodShow.TheVariants.{Cycle, Floor}
 use Rattle.cts_model.specs.declared.report.Version.{Version}
@@ -20,10 +20,6 @@ cycle_light Floor small = All-nil HasSmallWeight
 pub cycle_short : (shown : PeriodShow) → HasSmallWeights shown → length (cycle_of shown) ≤ 9999
 cycle_short (Cycle cycle) small = small.1
 cycle_short Floor small = omega arith
-
-pub cycle_long : (shown : PeriodShow) → length (cycle_of shown) ≡ cycle_length shown
-cycle_long (Cycle cycle) = refl
-cycle_long Floor = refl
 
 -- a list of the second version alone has all its entries in that version, and where it has one
 pub second_count : (version : Version) (count all : ℕ) → all ≡ count_in version count

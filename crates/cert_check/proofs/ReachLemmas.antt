@@ -98,21 +98,6 @@ Reached sinks source report = IsReachShown sinks report.topology.merges source
 
 module _ (sinks : List Sink) (source : Uv) (report : Report)
     (topology : IsTopology (length sinks) report.topology.merges) where
-  -- a sink has nothing below it
-  pub sink_shown : (register : ℕ) → register < length sinks → Reached sinks source report register
-  sink_shown register within =
-      let all = topology.all in
-      record {
-        reach_is = λ below is. absurd (nothing_below below is);
-        of_merge = λ place low same. absurd (omega arith);
-        of_source = λ same. absurd (omega arith);
-      }
-    where
-      nothing_below : (below : ℕ)
-          → IsParent (length sinks) report.topology.merges below register → ⊥
-      nothing_below below (inl (place, is, found)) = omega arith
-      nothing_below below (inr (is_root, is)) = omega arith
-
   -- where the edge to each of the two that a merge joins is as long as reaches differ
   both_over : (place : ℕ) (merge : Merge) → slice_get report.topology.merges place ≡ Some merge
       → (below : ℕ) → Joins merge below → IsMergeShown sinks report place

@@ -22,7 +22,7 @@ pub use Rattle.cts_model.specs.declared.tech.Tech.{Tech}
 pub use Rattle.cts_model.specs.declared.timing.PairDelay.{PairDelay}
 pub use Rattle.cts_model.specs.declared.tree.Merge.{Merge}
 pub use Rattle.cts_model.specs.declared.tree.Wire.{Wire}
-pub use Rattle.cts_model.specs.Vocabulary.{IsPath, Follows, IsGate, Reads, IsBelow, distance, IsPointBelow, IsUvBelow, rotated, apart, rotated_distance, IsOfCircuit, IsDrawnEdge, IsLongEnough, IsReachShown, IsSkewed, HasShape, HasSlack, MeetsAt, HoldsTogether, GivesPeriod, IsFromFloor, IsBetweenRegisters, HasSmallWeight, HasSmallWeights, ShowsPeriodAmong, count_in, cycle_length, IsOfSize, IsWithinBounds, LeadsAmong, number_at, AtEach, cycle_of, IsShown, IsShownTiming, IsShownTree, sinks_in, source_in, IsConstraintOf, IsHoldConstraint, IsSetupConstraint, count_of, arrival_of, IsBetween, AreApart, IsDrawn, Piece, pieces, total, IsStraight, AreWiresDown, Embedding, embedding_of, total_length, total_wire, span, ShowsMerge, ShowsSource, IsParent, IsTopology, Joins, numbers_below, source_of, IsMerge, root_of}
+pub use Rattle.cts_model.specs.Vocabulary.{IsPath, Follows, IsGate, Reads, IsBelow, distance, IsPointBelow, IsUvBelow, rotated, apart, rotated_distance, IsOfCircuit, IsDrawnEdge, IsLongEnough, IsReachShown, IsSkewed, HasShape, HasSlack, MeetsAt, HoldsTogether, GivesPeriod, IsFromFloor, IsBetweenRegisters, HasSmallWeight, HasSmallWeights, ShowsPeriodAmong, count_in, IsOfSize, IsWithinBounds, LeadsAmong, number_at, AtEach, cycle_of, IsShown, IsShownTiming, IsShownTree, sinks_in, source_in, IsConstraintOf, IsHoldConstraint, IsSetupConstraint, count_of, arrival_of, IsBetween, AreApart, IsDrawn, Piece, pieces, total, IsStraight, AreWiresDown, Embedding, embedding_of, total_length, total_wire, span, ShowsMerge, ShowsSource, IsParent, IsTopology, Joins, numbers_below, source_of, IsMerge, root_of}
 pub use Rattle.cts_model.specs.declared.problem.Problem.{Problem}
 pub use Rattle.path_delays.specs.JoinedPairs.{AreDelaysBetween, IsJoinedBy, IsDelayBetween}
 pub use Rattle.cert_check.specs.ComparedSlacks.{AreOneSlack, HasSlackRoom, IsFromZero}
