@@ -1,5 +1,5 @@
 -- The clusters of the nodes, under their keys and at their places.
-use Rattle.topology.proofs.Vocabulary.{◌≡◌, ℕ, ◌<◌, Option, Some, None, get_or, length, pos, refl, sym, ap, subst, ◌∙◌, slice_get, slice_index_or, IsSome, IsSomeAnd, option_and_then, option_map, option_map_or, get_or_default, slice_get-get_or, slice_get_within, get, Cluster, Entry, Live, low_on, HasCluster, IsOrdered, IsUnder, IsUnjoined, cluster_of, entry_at, low_at, node_at}
+use Rattle.topology.proofs.Vocabulary.{◌≡◌, ℕ, ◌<◌, Option, Some, None, get_or, length, pos, refl, sym, ap, subst, ◌∙◌, slice_get, slice_index_or, IsSome, IsSomeAnd, option_and_then, option_map, option_map_or, get_or_default, slice_get-get_or, slice_get_within, get, Cluster, Entry, Live, low_on, HasCluster, IsAt, IsOrdered, IsUnder, IsUnjoined, cluster_of, entry_at, low_at, node_at}
 use Rattle.std.proofs.Math.Logic.{∥∥₁_map}
 
 -- ---- under a key
@@ -124,12 +124,6 @@ under_kept old new key node (keyed, under) same kept = (
 )
 
 -- ---- at a place
-
--- the entry at a place is its node's
-pub record IsAt (live : Live) (place : ℕ) (entry : Entry) : Type 0 where
-  pub node : node_at live place ≡ entry.node
-  pub low : low_at live place ≡ low_on live.axis entry.cluster
-  pub has : HasCluster live entry.node entry.cluster
 
 pub entry_is : (live : Live) (place : ℕ) (entry : Entry) → IsOrdered live
     → place < length live.order.items → entry_at live place ≡ Some entry → IsAt live place entry

@@ -25,7 +25,7 @@ pub use Rattle.tilted_rect.specs.ClusterSets.{cost_of, IsCluster}
 pub use Rattle.tilted_rect.specs.Rects.{gap_of}
 pub use Rattle.tilted_rect.specs.declared.cluster.Cluster.{Cluster}
 pub use Rattle.topology.specs.Axes.{low_on, high_on}
-pub use Rattle.topology.specs.LiveClusters.{IsPair, IsKept, IsNearest, IsCovered, AreCovered, AreKept, IsFirstOf, cluster_of, owner_of, HasCluster, IsOrdered, IsUnder, IsUnjoined, entry_at, low_at, node_at, IsCheapestPair, IsAdded, IsJoined, IsLeft, IsMerging, AreLive, WereCheapest, AreFirstSinks, IsKeptWith, IsLooked, IsPast, other_of, StandsBefore, IsSwept}
+pub use Rattle.topology.specs.LiveClusters.{IsPair, IsKept, IsNearest, IsCovered, AreCovered, AreKept, IsFirstOf, cluster_of, owner_of, HasCluster, IsOrdered, IsUnder, IsUnjoined, entry_at, low_at, node_at, IsCheapestPair, IsAdded, IsAt, IsJoined, IsLeft, IsMerging, AreLive, WereCheapest, AreFirstSinks, IsKeptWith, IsLooked, IsPast, other_of, StandsBefore, IsSwept}
 pub use Rattle.topology.specs.Pairs.{IsBefore, IsAtMost, IsReplaced, merge_of, IsCheaperOf, by_turn}
 pub use Rattle.topology.specs.declared.axis.Axis.{Axis}
 pub use Rattle.topology.specs.declared.axis.Axis.TheVariants.{U, V, Reach}

@@ -77,6 +77,12 @@ abbrev pub low_at : Live → (place : ℕ) → ℤ
 low_at live place =
     option_map_or (λ entry. low_on live.axis entry.cluster) (entry_at live place) (pos 0)
 
+-- what stands at the place is that node with its cluster
+pub record IsAt (live : Live) (place : ℕ) (entry : Entry) : Type 0 where
+  pub node : node_at live place ≡ entry.node
+  pub low : low_at live place ≡ low_on live.axis entry.cluster
+  pub has : HasCluster live entry.node entry.cluster
+
 -- under the key is the cluster of that node
 abbrev pub IsUnder : Live → (key node : ℕ) → Type 0
 IsUnder live key node = (slice_get live.keys node ≡ Some (Some key))
