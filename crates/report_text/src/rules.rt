@@ -16,8 +16,8 @@ use std::alloc::Global;
 pub(crate) struct Rules<'a> {
     pub alloc: Global,
     pub circuit: &'a Circuit,
-    registers: &'a NameSet,
-    signals: &'a NameSet,
+    pub registers: &'a NameSet,
+    pub signals: &'a NameSet,
     pub scale: Scale,
     ghost registered: { registers.now ≡ register_names circuit.now },
     ghost named: { signals.now ≡ signal_names circuit.now },
@@ -25,27 +25,6 @@ pub(crate) struct Rules<'a> {
 }
 
 impl<'a> Rules<'a> {
-    /// The rules of a circuit by its names. One step makes a unit, until the period tells how many
-    /// do.
-    pub(crate) fn new(
-        alloc: Global,
-        circuit: &'a Circuit,
-        registers: &'a NameSet,
-        signals: &'a NameSet,
-    ) -> Rules<'a>
-        requires registers { registers.now ≡ register_names circuit.now }
-        requires signals { signals.now ≡ signal_names circuit.now }
-        ensures { result.circuit.now ≡ circuit.now }
-    {
-        Rules {
-            alloc,
-            circuit,
-            registers,
-            signals,
-            scale: Scale { den: 1, grid: 1 },
-        }
-    }
-
     /// The same rules with the steps of a grid and of its period.
     pub(crate) fn on_grid(self, grid: Grid) -> Rules<'a>
         ensures circuit { result.circuit.now ≡ self.entry.circuit.now }

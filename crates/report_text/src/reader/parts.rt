@@ -5,6 +5,7 @@ ghost use Rattle.report_text.specs.Vocabulary.{HasParts, HasFault, NoMemory};
 
 use crate::cursor::Cursor;
 use crate::fault::ReportFault;
+use crate::field::Scale;
 use crate::reader::body::read_body;
 use crate::reader::heading::{read_heading, read_shown};
 use crate::rules::{Rules, signal_names};
@@ -26,14 +27,18 @@ pub(crate) fn read_parts(
 {
     let registers = register_names(alloc, circuit)?;
     let signals = signal_names(alloc, circuit)?;
-    read_named(
-        Rules::new(alloc, circuit, &registers, &signals),
-        bytes,
-        tech,
-    )
+    let rules = Rules {
+        alloc,
+        circuit,
+        registers: &registers,
+        signals: &signals,
+        scale: Scale { den: 1, grid: 1 },
+    };
+    read_named(rules, bytes, tech)
 }
 
-// Reads all lines by rules that know the names of the circuit.
+// Reads all lines by rules that know the names of the circuit. One step makes a unit, until the
+// period tells how many do.
 fn read_named(rules: Rules, bytes: &[u8], tech: &Tech) -> Result<Parts, ReportFault>
     ensures ok { IfOk result (HasParts rules.entry.circuit.now tech.now bytes.now) }
     ensures fault { IfErr result (λ found. found ≢ NoMemory
