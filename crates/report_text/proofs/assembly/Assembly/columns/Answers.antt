@@ -28,13 +28,15 @@ pub returns-clause-shows : goal.returns-clause-shows
 returns-clause-shows c = c.from_vec-4.ensures ∙ c.in_ok-push.ensures.items
     ∙ ap (λ shows. shows ++ c.args.self.now.parts.now.body.source.show ∷ [])
     (IfOk-at_ok _ c.in_ok-shows.was (items_from_collect _ c.collect-4.ensures.ran
-    (YieldsList-from_map _ (λ row. row.show) (YieldsList-from_slice c.args.self.now.parts.now.body.merged cc)
+    (YieldsList-from_map _ (λ row. row.show)
+    (YieldsList-from_slice c.args.self.now.parts.now.body.merged cc)
     c.map-4.ensures.closure (λ x r q k. search (rules, tests)))))
 
 pub returns-clause-wires : goal.returns-clause-wires
 returns-clause-wires c = c.from_vec-5.ensures
     ∙ IfOk-at_ok _ c.in_ok-wires.was (items_from_collect _ c.collect-5.ensures.ran
-    (YieldsList-from_map _ (λ row. row.wire) (YieldsList-from_slice c.args.self.now.parts.now.body.placed cc)
+    (YieldsList-from_map _ (λ row. row.wire)
+    (YieldsList-from_slice c.args.self.now.parts.now.body.placed cc)
     c.map-5.ensures.closure (λ x r q k. search (rules, tests))))
 
 pub returns-clause-tree : goal.returns-clause-tree
