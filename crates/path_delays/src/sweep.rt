@@ -1,9 +1,9 @@
 ghost use Rattle.std.specs.Prelude.{◌≡◌, ◌<◌, ◌+◌, ◌*◌, ◌^◌, ℕ, All, Contains, IfOk, IsTrue, Some, length, nat_abs, slice_set};
-ghost use Rattle.path_delays.specs.Vocabulary.{option_map, is_gate, is_valid, IsBelow, IsWithin, IsLevelsOf, Window, AreExtremesIfAny, StandsAt, AreInputs, gate_sums, AreWindows, IsSmallSchedule, IsWindowBelow, AreBelow, AreCaptures, AreLaunched, ArePassed, IsGateWindow, either_window, start_window, sums_in, sums_of, window_at, window_limit};
+ghost use Rattle.path_delays.specs.Vocabulary.{option_map, is_gate, is_valid, IsBelow, IsLevelsOf, Window, AreExtremesIfAny, StandsAt, AreInputs, gate_sums, AreWindows, IsSmallSchedule, IsWindowBelow, AreBelow, AreCaptures, AreLaunched, ArePassed, IsGateWindow, either_window, start_window, sums_in, sums_of, window_at, window_limit};
 
 use crate::gate_delays::gate_delay;
 use crate::launching::{input_signals, launched, start_sums};
-use crate::window::Window;
+use crate::window::{Scale, Window};
 use cts_base::{Listed, NoMemory};
 use cts_model::{Circuit, Schedule, Signal, Tech};
 use gate_order::Levels;
@@ -15,7 +15,8 @@ struct Sweep<'a> {
     circuit: &'a Circuit,
     tech: &'a Tech,
     schedule: &'a Schedule,
-    ghost scale: { IsWithin 1 4097 schedule.now.den },
+    scale: Scale,
+    ghost den: { scale.den ≡ schedule.now.den },
     ghost small: { All (IsBelow (10 ^ 19)) schedule.now.at },
     ghost registers: { length schedule.now.at ≡ length circuit.now.registers },
 }
@@ -45,26 +46,16 @@ pub fn arrivals(
         circuit,
         tech,
         schedule,
+        scale: Scale { den: schedule.den },
     };
-    sweep.launch_all(&mut windows, inputs.as_slice());
+    for from in 0..circuit.registers.len() {
+        sweep.launch(&mut windows, inputs.as_slice(), from);
+    }
     sweep.pass_gates(&mut windows, levels);
     captured_windows(alloc, circuit, windows.as_slice())
 }
 
 impl Sweep<'_> {
-    // Starts at what each register launches.
-    fn launch_all(&self, windows: &mut Vec<Option<Window>>, inputs: &[u32])
-        requires inputs { AreInputs self.now.circuit.now inputs.now }
-        requires launched { AreLaunched self.now.circuit.now self.now.tech.now
-            self.now.schedule.now 0 windows.old.items }
-        ensures { AreLaunched self.now.circuit.now self.now.tech.now self.now.schedule.now
-            (length self.now.circuit.now.registers) windows.new.items }
-    {
-        for from in 0..self.circuit.registers.len() {
-            self.launch(windows, inputs, from);
-        }
-    }
-
     // Starts at each signal that a register launches.
     fn launch(&self, windows: &mut Vec<Option<Window>>, inputs: &[u32], from: usize)
         requires inputs { AreInputs self.now.circuit.now inputs.now }
@@ -91,7 +82,7 @@ impl Sweep<'_> {
             earliest: at,
             latest: at,
         };
-        edge.suffix(start_sums(self.tech), self.schedule.den)
+        edge.suffix(start_sums(self.tech), self.scale)
     }
 
     // Puts its window at each gate, in the order of the levels.
@@ -121,7 +112,7 @@ impl Sweep<'_> {
             → result ≡ Some window → IsWindowBelow (bound + 10 ^ 10) window }
     {
         let read = merged_windows(windows, gate.fan_in.as_slice())?;
-        Some(read.suffix(gate_delay(self.tech, gate), self.schedule.den))
+        Some(read.suffix(gate_delay(self.tech, gate), self.scale))
     }
 }
 

@@ -12,19 +12,25 @@ pub struct Window {
     pub latest: i128,
 }
 
+/// What times in ticks are over.
+#[derive(Clone, Copy)]
+pub(crate) struct Scale {
+    pub(crate) den: i128,
+    pub(crate) ghost small: { IsWithin 1 4097 den },
+}
+
 impl Window {
     /// The window after a delay in ticks.
-    pub(crate) fn suffix(self, delay: Sums, scale: i128) -> Window
+    pub(crate) fn suffix(self, delay: Sums, scale: Scale) -> Window
         requires window { IsWindowBelow (2 * 10 ^ 19) self }
         requires delay { AreWithin 2024000 delay }
-        requires scale { IsWithin 1 4097 scale }
-        ensures suffix { result ≡ window_after (nat_abs scale) delay self }
+        ensures suffix { result ≡ window_after (nat_abs scale.den) delay self }
         ensures small { (bound : ℕ) → IsWindowBelow bound self
             → IsWindowBelow (bound + 10 ^ 10) result }
     {
         Window {
-            earliest: later(self.earliest, scaled(delay.least, scale)),
-            latest: later(self.latest, scaled(delay.greatest, scale)),
+            earliest: later(self.earliest, scale.scaled(delay.least)),
+            latest: later(self.latest, scale.scaled(delay.greatest)),
         }
     }
 
@@ -60,12 +66,13 @@ fn later(time: i128, ticks: i128) -> i128
     time + ticks
 }
 
-// A delay in ticks over the scale.
-fn scaled(delay: i64, scale: i128) -> i128
-    requires delay { IsWithin 0 2024000 delay }
-    requires scale { IsWithin 1 4097 scale }
-    ensures scaled { result ≡ (pos (nat_abs scale) *ℤ delay) }
-    ensures small { IsWithin 0 8292328000 result }
-{
-    scale * i128::from(delay)
+impl Scale {
+    // A delay in ticks over the scale.
+    fn scaled(self, delay: i64) -> i128
+        requires { IsWithin 0 2024000 delay }
+        ensures scaled { result ≡ (pos (nat_abs self.den) *ℤ delay) }
+        ensures small { IsWithin 0 8292328000 result }
+    {
+        self.den * i128::from(delay)
+    }
 }

@@ -14,8 +14,8 @@ returns c =
     (rw c.as_slice-2.ensures.value c.pass_gates.ensures) are)
     c.captured_windows.ensures
 
-pub launch_all-requires-clause-launched : goal.launch_all-requires-clause-launched
-launch_all-requires-clause-launched c =
+pub loop-from-init : goal.loop-from-init
+loop-from-init c =
     let none : c.in_ok-windows.windows.items ≡ replicate c.len.result None = search rules in
     let covers : c.len.result ≡ length c.args.circuit.now.signals = search rules in
     rw none (launched_none c.args.circuit.now c.args.tech.now c.args.schedule.now c.len.result

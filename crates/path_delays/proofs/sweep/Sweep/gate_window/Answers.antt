@@ -1,6 +1,6 @@
 -- The gate's window is that of what it reads, moved by the gate's delay.
 use Rattle.path_delays.proofs.Vocabulary.{◌+◌, ◌*◌, ◌^◌, Contains, Some, ap, subst, arith, same_Some, Window, IsWindowBelow}
-use Rattle.path_delays.proofs.WindowLemmas.{extremes_below, gate_small, kept_ticks}
+use Rattle.path_delays.proofs.WindowLemmas.{extremes_below, gate_small}
 use Rattle.path_delays.proofs.sweep.Sweep.gate_window.Goals as goal
 
 pub returns-in_err-read-clause-suffix : goal.returns-in_err-read-clause-suffix
@@ -21,11 +21,7 @@ returns-clause-suffix c = record {
   read = Some c.in_ok-read.read;
   extremes = rw c.as_slice.ensures at c.in_ok-read.ensures;
   suffix = ap (λ (window : Window). Some window)
-      (rw (
-        c.gate_delay.ensures,
-        kept_ticks c.args.self.now.schedule.now.den c.args.self.now.scale
-            (omega arith),
-      ) at c.suffix.ensures.suffix);
+      (rw (c.gate_delay.ensures, c.args.self.now.den) at c.suffix.ensures.suffix);
 }
 
 pub returns-clause-small : goal.returns-clause-small

@@ -5,10 +5,9 @@ use Rattle.path_delays.proofs.window.Window.suffix.Goals as goal
 
 pub returns-clause-suffix : goal.returns-clause-suffix
 returns-clause-suffix c =
-    let scale = kept_ticks c.args.scale c.requires.scale (omega arith) in
-    let first = rw (scale, kept_delay c.args.delay.least c.requires.delay.least) at
+    let first = rw (kept_delay c.args.delay.least c.requires.delay.least) at
     c.scaled.ensures.scaled in
-    let last = rw (scale, kept_delay c.args.delay.greatest c.requires.delay.greatest) at
+    let last = rw (kept_delay c.args.delay.greatest c.requires.delay.greatest) at
     c.scaled-2.ensures.scaled in
     let from = kept_ticks c.scaled.result c.scaled.ensures.small (omega arith) in
     let to = kept_ticks c.scaled-2.result c.scaled-2.ensures.small (omega arith) in
