@@ -1,5 +1,5 @@
 -- Sums handed to one gate after the other.
-use Rattle.path_delays.proofs.Vocabulary.{◌≡◌, ◌≢◌, ◌<◌, ℕ, true, false, length, Some, List, [], ◌∷◌, ◌++◌, refl, sym, subst, arith, eq-eqb, ne_eqb, get_or, get_or_from_slice_get, same_Some, slice_get-get_or, Lanes, Network, Reach, NumberSet, Sums, no_sums, sums_through, has_number, IsInserted, AllBounded, lane_of, CanHand, GetsSums, IsJoined, IsMerged, IsPassed, row_at, rows_of, table_limit, limit_of, delay_at, lane_at, lanes_at, rank_at, CanHandOn, HasReachRoom, IsSameRoom, IsHanded, IsMarked, IsOpened, AreHanded}
+use Rattle.path_delays.proofs.Vocabulary.{◌≡◌, ◌≢◌, ◌<◌, ℕ, true, false, length, Some, List, [], ◌∷◌, ◌++◌, Bool, not, refl, sym, ap, subst, arith, eq-eqb, ne_eqb, get_or, get_or_from_slice_get, same_Some, slice_get-get_or, unwrap_or, Lanes, Network, Reach, NumberSet, Sums, no_sums, sums_through, has_number, IsInserted, AllBounded, lane_of, CanHand, GetsSums, IsJoined, IsMerged, IsPassed, row_at, rows_of, sums_before, table_limit, limit_of, delay_at, lane_at, lanes_at, rank_at, CanHandOn, HasReachRoom, IsSameRoom, IsHanded, IsMarked, AreHanded}
 use Rattle.path_delays.specs.declared.lane_table.LaneTable.{LaneTable}
 use Rattle.path_delays.proofs.LaneLemmas.{some_is}
 
@@ -88,25 +88,23 @@ module _ (network : Network) (old : Reach) (from gate : ℕ) (given : Lanes) (de
   IsHanded-passed reached waiting lanes first inserted waits limit gets =
       grind (arith, inserted_in, same_through)
 
--- a signal that is opened keeps what stood there, and else holds no sums
-pub IsOpened-kept : (old : Reach) (signal : ℕ) → has_number old.reached.words.items signal ≡ true
-    → signal < length (rows_of old.lanes) → IsOpened signal old old
-IsOpened-kept old signal reached inside = grind (arith, lane_there)
+-- what stood in a lane at a signal, or no sums where it isn't reached
+stood_before : (reach : Reach) (signal : ℕ) (known : Bool)
+    → known ≡ has_number reach.reached.words.items signal → signal < length (rows_of reach.lanes)
+    → (lane : ℕ) → unwrap_or (lane_at reach lane signal) no_sums
+    ≡ sums_before (not known) (row_at (rows_of reach.lanes) signal) lane
+stood_before reach signal true is inside lane =
+    ap (λ o. unwrap_or o no_sums) (lane_there reach lane signal (sym is) inside)
+stood_before reach signal false is inside lane = rw (sym is) refl
 
-pub IsOpened-first : (old : Reach) (signal : ℕ) (reached : NumberSet) (lanes : LaneTable)
-    → has_number old.reached.words.items signal ≡ false
+-- sums that are joined in a lane of a signal are marked, and where it isn't reached alone
+pub IsMarked-joined : (old : Reach) (lane signal : ℕ) (sums : Sums) (known : Bool)
+    (reached : NumberSet) (lanes : LaneTable) → lane < 16 → signal < length (rows_of old.lanes)
+    → known ≡ has_number old.reached.words.items signal
     → IsInserted signal old.reached.words.items reached.words.items
     → table_limit lanes ≡ table_limit old.lanes
-    → GetsSums signal (λ lane. no_sums) (rows_of old.lanes) (rows_of lanes)
-    → IsOpened signal old (record { reached = reached; lanes = lanes; waiting = old.waiting })
-IsOpened-first old signal reached lanes first inserted limit gets = grind (arith, inserted_in)
-
--- sums that are joined in a lane of an opened signal are marked
-pub IsMarked-joined : (old between : Reach) (lane signal : ℕ) (sums : Sums) (lanes : LaneTable)
-    → lane < 16 → signal < length (rows_of between.lanes) → IsOpened signal old between
-    → table_limit lanes ≡ table_limit between.lanes
-    → IsJoined signal lane sums (rows_of between.lanes) (rows_of lanes)
+    → IsJoined signal lane sums (not known) (rows_of old.lanes) (rows_of lanes)
     → IsMarked lane signal sums old
-    (record { reached = between.reached; lanes = lanes; waiting = between.waiting })
-IsMarked-joined old between lane signal sums lanes low inside opened limit gets =
-    grind (arith, same_Some, lane_there, eq-eqb, ne_eqb)
+    (record { reached = reached; lanes = lanes; waiting = old.waiting })
+IsMarked-joined old lane signal sums known reached lanes low inside is inserted limit gets =
+    grind (arith, inserted_in, stood_before, stands, elsewhere, eq-eqb, ne_eqb)

@@ -35,10 +35,10 @@ pub use Rattle.path_delays.specs.Capturings.{IsCapturer, HasCaptureRoom, IsSameC
 pub use Rattle.path_delays.specs.Carrying.{along, AreCarried, AreExtremesIfAny, AreShownBy, Comes, IsJoinedAt, StandsAt, AreExtremesOf, AreLaunchedBy, gate_sums_at, start_sums}
 pub use Rattle.path_delays.specs.CyclePaths.{FitsRoom, IsPathWithin, KeepsPaths, pair_of}
 pub use Rattle.path_delays.specs.ExtremePaths.{IsExtremeIfAny, delay_by, extreme_of, IsNoFurther, IsFurthest, IsExtremePath}
-pub use Rattle.path_delays.specs.Handing.{delay_at, lane_at, lanes_at, rank_at, CanHandOn, HasReachRoom, IsSameRoom, IsHanded, IsMarked, IsOpened, AreHanded, limit_at, most_at, limit_of, most_of, no_delay, sums_at, waits_at, IsCleared, IsStarted, IsHandedOn}
+pub use Rattle.path_delays.specs.Handing.{delay_at, lane_at, lanes_at, rank_at, CanHandOn, HasReachRoom, IsSameRoom, IsHanded, IsMarked, AreHanded, limit_at, most_at, limit_of, most_of, no_delay, sums_at, waits_at, IsCleared, IsStarted, IsHandedOn}
 pub use Rattle.path_delays.specs.JoinedPairs.{IsJoinedBy, AreDelaysBetween, ListsPairsBefore, MeetsLimit, ShowsTooMany, pair_limit, IsDelayBetween, ArePairs}
 pub use Rattle.path_delays.specs.LaneParts.{AllBounded, lane_of}
-pub use Rattle.path_delays.specs.LaneTables.{CanHand, GetsSums, IsJoined, IsMerged, IsPassed, lane_in, row_at, rows_of, table_limit}
+pub use Rattle.path_delays.specs.LaneTables.{CanHand, GetsSums, IsJoined, IsMerged, IsPassed, lane_in, row_at, rows_of, sums_before, table_limit}
 pub use Rattle.path_delays.specs.NarrowParts.{ArePassable, greatest_in, least_in, narrow_limit, wide_greatest, wide_lanes, wide_least}
 pub use Rattle.path_delays.specs.Networks.{gate_sums, AreInputs, AreInputsBelow, AreRanks, IsNetworkOf, AreAllReads, all_reads_by, AreReaders, HasPlaceInOrder, ArePlaces, AreCapturedUpTo}
 pub use Rattle.path_delays.specs.NumberSets.{has_number, AreInserted, AreListed, IsLowestTaken, IsInserted, IsCommon, IsFirstFilled}

@@ -94,15 +94,6 @@ pub record IsSameRoom (old new : Reach) : Type 0 where
   pub waiting : length new.waiting.words.items ≡ length old.waiting.words.items
   pub limit : limit_of new ≡ limit_of old
 
--- a signal is reached, where it wasn't no sums stand in any lane, and all else stays
-pub record IsOpened (signal : ℕ) (old new : Reach) : Type 0 where
-  pub room : IsSameRoom old new
-  pub reached : has_number new.reached.words.items signal ≡ true
-  pub at : (lane : ℕ) → lane < 16
-      → lane_at new lane signal ≡ Some (unwrap_or (lane_at old lane signal) no_sums)
-  pub others : (other : ℕ) → other ≢ signal → lanes_at new other ≡ lanes_at old other
-  pub waits : (rank : ℕ) → waits_at new rank ≡ waits_at old rank
-
 -- sums are joined at a signal in a lane, where it isn't reached none stand in the others, and all
 -- else stays
 pub record IsMarked (lane signal : ℕ) (sums : Sums) (old new : Reach) : Type 0 where

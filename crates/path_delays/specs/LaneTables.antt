@@ -1,5 +1,5 @@
 -- The sums to each signal, in a row of lanes each.
-use Rattle.std.specs.Prelude.{◌≡◌, ◌≢◌, ◌<◌, ◌==◌, ℕ, List, [], length, map, Option, Some, if◌then◌else◌, slice_get, slice_index_or}
+use Rattle.std.specs.Prelude.{◌≡◌, ◌≢◌, ◌<◌, ◌==◌, ℕ, Bool, List, [], length, map, Option, Some, if◌then◌else◌, slice_get, slice_index_or}
 use Rattle.std.specs.Option.{option_map}
 use Rattle.path_delays.specs.declared.sums.Sums.{Sums}
 use Rattle.path_delays.specs.declared.lanes.Lanes.{Lanes}
@@ -7,7 +7,7 @@ use Rattle.path_delays.specs.declared.lane_table.LaneTable.{LaneTable}
 use Rattle.path_delays.specs.declared.lane_table.LaneTable.TheVariants.{Narrow, Wide}
 use Rattle.path_delays.specs.LaneParts.{AllBounded, lane_of}
 use Rattle.path_delays.specs.NarrowParts.{narrow_limit, wide_lanes}
-use Rattle.path_delays.specs.SumParts.{AreWithin, delay_limit, merged_sums, sums_through}
+use Rattle.path_delays.specs.SumParts.{AreWithin, delay_limit, merged_sums, no_sums, sums_through}
 
 -- the lanes of each signal
 abbrev pub rows_of : LaneTable → List Lanes
@@ -33,11 +33,15 @@ pub record GetsSums (signal : ℕ) (sums : ℕ → Sums) (old new : List Lanes) 
   pub at : (lane : ℕ) → lane < 16 → lane_in new signal lane ≡ Some (sums lane)
   pub others : (other : ℕ) → other ≢ signal → slice_get new other ≡ slice_get old other
 
+-- what stands in a lane before, or no sums where none came
+abbrev pub sums_before : (first : Bool) → Lanes → (lane : ℕ) → Sums
+sums_before first row lane = if first then no_sums else lane_of row lane
+
 -- in one lane it gets the least and the greatest of both
-abbrev pub IsJoined : (signal lane : ℕ) → Sums → (old new : List Lanes) → Type 0
-IsJoined signal lane sums old new = GetsSums signal (λ other. if other == lane
-    then merged_sums (lane_of (row_at old signal) other) sums
-    else lane_of (row_at old signal) other) old new
+abbrev pub IsJoined : (signal lane : ℕ) → Sums → (first : Bool) → (old new : List Lanes) → Type 0
+IsJoined signal lane sums first old new = GetsSums signal (λ other. if other == lane
+    then merged_sums (sums_before first (row_at old signal) other) sums
+    else sums_before first (row_at old signal) other) old new
 
 -- the sums of one signal can be handed to another after a delay
 pub record CanHand (limit : ℕ) (rows : List Lanes) (from to : ℕ) (delay : Sums) : Type 0 where

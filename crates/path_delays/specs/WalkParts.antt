@@ -20,11 +20,6 @@ pub record IsRoomFor (circuit : Circuit) (tech : Tech) (walk : Walk) : Type 0 wh
 pub record HasReach (circuit : Circuit) (tech : Tech) (from lane : ℕ) (walk : Walk) : Type 0 where
   pub each : (signal : ℕ) → IsReach circuit tech from signal (sums_to walk lane signal)
 
--- and so has the lane of each of these registers
-abbrev pub HaveReach : Circuit → Tech → (registers : List ℕ) → Walk → Type 0
-HaveReach circuit tech registers walk = (lane from : ℕ) → slice_get registers lane ≡ Some from
-    → HasReach circuit tech from lane walk
-
 -- a lane has the sums to each of some signals that the register reaches
 abbrev pub ReachesEach : Circuit → Tech → (from lane : ℕ) → List ℕ → Walk → Type 0
 ReachesEach circuit tech from lane signals walk = (signal : ℕ) → Contains signals signal

@@ -1,7 +1,7 @@
-ghost use Rattle.std.specs.Prelude.{◌≡◌, ◌<◌, ◌≤◌, ◌++◌, ℕ, All, List, OnOk, length};
+ghost use Rattle.std.specs.Prelude.{◌≡◌, ◌<◌, ◌++◌, ℕ, All, List, OnOk, length};
 ghost use Rattle.path_delays.specs.Vocabulary.{AreDelaysBetween};
 
-use crate::lanes::Lane;
+use crate::lanes::{Block, Lane};
 use crate::pair::{captured_sums, joined_pair};
 use crate::path_search::Paths;
 use cts_base::NoMemory;
@@ -12,19 +12,18 @@ impl Paths<'_> {
     pub(crate) fn push_delays(
         &mut self,
         delays: &mut Vec<Option<PairDelay>>,
-        pairs: &[(u32, u32)],
+        pairs: &Block<'_, (u32, u32)>,
     ) -> Result<(), NoMemory>
-        requires few { length pairs.now ≤ 16 }
-        requires pairs { All (λ pair. (pair.0 < length self.old.circuit.registers)
-            × (pair.1 < length self.old.circuit.registers)) pairs.now }
+        requires { All (λ pair. (pair.0 < length self.old.circuit.registers)
+            × (pair.1 < length self.old.circuit.registers)) pairs.now.items.now }
         ensures same { self.new ≡ self.old }
         ensures delays { OnOk result ((passed : List (ℕ × ℕ))
             → AreDelaysBetween self.old.circuit self.old.tech passed delays.old.items
-            → AreDelaysBetween self.old.circuit self.old.tech (passed ++ pairs.now)
+            → AreDelaysBetween self.old.circuit self.old.tech (passed ++ pairs.now.items.now)
             delays.new.items) }
     {
         self.walk.walk_between(self.circuit, self.tech, pairs);
-        for (lane, pair) in pairs.iter().enumerate() {
+        for (lane, pair) in pairs.items.iter().enumerate() {
             let captured = self
                 .circuit
                 .register_signal(pair.1 as usize)

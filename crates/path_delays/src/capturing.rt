@@ -67,7 +67,7 @@ fn capture_of(walk: &Walk, register: u32, captured: &[u32]) -> Capture
         → IsCapture circuit walk.now result }
 {
     match captured {
-        [signal] if walk.reaches(*signal) => Capture {
+        [signal] if walk.reached().contains(*signal) => Capture {
             register,
             single: Some(*signal),
             lanes: walk.lanes_to(*signal),
@@ -107,7 +107,7 @@ impl Capturing {
         ensures { OnOk result (AreGathered walk.now self.old self.new) }
     {
         self.found.clear();
-        walk.reached_among(&self.captured, &mut self.reached);
+        self.reached.become_common(&self.captured, walk.reached());
         let mut next = 0;
         while let Some(signal) = self.reached.take_lowest(next) {
             self.found.insert_all(self.capturers.group(signal as usize));

@@ -2,7 +2,7 @@ ghost use Rattle.std.specs.Prelude.{◌≡◌, ◌<◌, ◌≤◌, All, IfOk, le
 ghost use Rattle.path_delays.specs.Vocabulary.{Tech, IsConstraintOf, FitsRoom, IsPathWithin, IsReachedAlong, AreReachedAlong, KeepsPaths, pair_of, HasRanksOf, IsRoomFor};
 
 use crate::extreme_path::path_back;
-use crate::lanes::{LANES, Lane};
+use crate::lanes::{Block, LANES, Lane};
 use crate::path_search::Paths;
 use crate::walk::Walk;
 use cts_base::{Listed, NoMemory};
@@ -16,18 +16,17 @@ impl Paths<'_> {
         &mut self,
         paths: &mut Listed<Listed<u32>>,
         alloc: Global,
-        block: &[Constraint],
+        block: &Block<'_, Constraint>,
         room: usize,
     ) -> Result<usize, NoMemory>
-        requires few { length block.now ≤ 16 }
-        requires each { All (IsConstraintOf self.old.circuit self.old.tech) block.now }
-        ensures paths { IfOk result
-            (KeepsPaths self.old.circuit self.old.tech block.now room paths.old paths.new) }
+        requires { All (IsConstraintOf self.old.circuit self.old.tech) block.now.items.now }
+        ensures paths { IfOk result (KeepsPaths self.old.circuit self.old.tech
+            block.now.items.now room paths.old paths.new) }
         ensures same { self.new ≡ self.old }
     {
         walk_along(&mut self.walk, self.circuit, self.tech, block, room);
         let mut left = room;
-        for (lane, constraint) in block.iter().enumerate() {
+        for (lane, constraint) in block.items.iter().enumerate() {
             let lane = Lane { number: lane };
             let path = path_within(&self.walk, alloc, self.circuit, lane, constraint, left)?;
             left -= path.len();
@@ -38,21 +37,29 @@ impl Paths<'_> {
 }
 
 // Walks along the paths of up to sixteen constraints, if there is any room.
-fn walk_along(walk: &mut Walk, circuit: &Circuit, tech: &Tech, block: &[Constraint], room: usize)
+fn walk_along(
+    walk: &mut Walk,
+    circuit: &Circuit,
+    tech: &Tech,
+    block: &Block<'_, Constraint>,
+    room: usize,
+)
     requires room { IsRoomFor circuit.now tech.now walk.old }
-    requires few { length block.now ≤ 16 }
-    requires each { All (IsConstraintOf circuit.now tech.now) block.now }
-    ensures reach { 0 < room → AreReachedAlong circuit.now tech.now block.now walk.new }
+    requires each { All (IsConstraintOf circuit.now tech.now) block.now.items.now }
+    ensures reach { 0 < room → AreReachedAlong circuit.now tech.now block.now.items.now walk.new }
     ensures room { IsRoomFor circuit.now tech.now walk.new }
 {
     if room == 0 {
         return;
     }
     let mut pairs = [(0, 0); LANES];
-    for (lane, constraint) in block.iter().enumerate() {
+    for (lane, constraint) in block.items.iter().enumerate() {
         pairs[lane] = pair_of(constraint);
     }
-    walk.walk_between(circuit, tech, &pairs[..block.len()]);
+    let pairs = Block {
+        items: &pairs[..block.items.len()],
+    };
+    walk.walk_between(circuit, tech, &pairs);
 }
 
 // The path of the constraint in a lane, if there is room for so many signals, and else none.

@@ -1,5 +1,5 @@
 ghost use Rattle.std.specs.Prelude.{◌≡◌, ◌<◌, ℕ, false, None, IfOk, length, map, if◌then◌else◌, slice_index_or};
-ghost use Rattle.path_delays.specs.Vocabulary.{option_and_then, CanHand, GetsSums, IsJoined, IsMerged, IsPassed, lane_in, rows_of, table_limit, narrow_limit, AreWithin, delay_limit, no_sums, some_sums};
+ghost use Rattle.path_delays.specs.Vocabulary.{option_and_then, CanHand, IsJoined, IsMerged, IsPassed, lane_in, rows_of, table_limit, narrow_limit, AreWithin, delay_limit, some_sums};
 
 use crate::lanes::{Lane, Lanes};
 use crate::narrow_lanes::NarrowLanes;
@@ -55,28 +55,17 @@ impl LaneTable {
         }
     }
 
-    /// Leaves no sums in any lane of a signal.
-    pub(crate) fn clear(&mut self, signal: usize)
-        requires { signal < length (rows_of self.old) }
-        ensures limit { table_limit self.new ≡ table_limit self.old }
-        ensures sums { GetsSums signal (λ lane. no_sums) (rows_of self.old) (rows_of self.new) }
-    {
-        match self {
-            LaneTable::Narrow(rows) => clear(rows, signal),
-            LaneTable::Wide(rows) => clear(rows, signal),
-        }
-    }
-
-    /// Joins sums in a lane of a signal.
-    pub(crate) fn join(&mut self, signal: usize, lane: Lane, sums: Sums)
+    /// Joins sums in a lane of a signal. Where they are its first, none are left in any lane before.
+    pub(crate) fn join(&mut self, signal: usize, lane: Lane, sums: Sums, first: bool)
         requires signal { signal < length (rows_of self.old) }
         requires sums { AreWithin (table_limit self.old) sums }
         ensures limit { table_limit self.new ≡ table_limit self.old }
-        ensures sums { IsJoined signal lane.number sums (rows_of self.old) (rows_of self.new) }
+        ensures sums { IsJoined signal lane.number sums first (rows_of self.old)
+            (rows_of self.new) }
     {
         match self {
-            LaneTable::Narrow(rows) => join(rows, signal, lane, sums),
-            LaneTable::Wide(rows) => join(rows, signal, lane, sums),
+            LaneTable::Narrow(rows) => join(rows, signal, lane, sums, first),
+            LaneTable::Wide(rows) => join(rows, signal, lane, sums, first),
         }
     }
 
@@ -124,21 +113,19 @@ fn filled<R: Row>(rows: &Vec<R>, signal: usize) -> [bool; 16]
     }
 }
 
-fn clear<R: Row>(rows: &mut Vec<R>, signal: usize)
-    requires { signal < length (map R.wide rows.old.items) }
-    ensures { GetsSums signal (λ lane. no_sums) (map R.wide rows.old.items)
-        (map R.wide rows.new.items) }
-{
-    rows[signal] = R::none();
-}
-
-fn join<R: Row>(rows: &mut Vec<R>, signal: usize, lane: Lane, sums: Sums)
+fn join<R: Row>(rows: &mut Vec<R>, signal: usize, lane: Lane, sums: Sums, first: bool)
     requires signal { signal < length (map R.wide rows.old.items) }
     requires sums { AreWithin R.limit sums }
-    ensures { IsJoined signal lane.number sums (map R.wide rows.old.items)
+    ensures { IsJoined signal lane.number sums first (map R.wide rows.old.items)
         (map R.wide rows.new.items) }
 {
-    rows[signal].join(lane, sums);
+    if first {
+        let mut row = R::none();
+        row.join(lane, sums);
+        rows[signal] = row;
+    } else {
+        rows[signal].join(lane, sums);
+    }
 }
 
 fn pass<R: Row>(rows: &mut Vec<R>, from: usize, to: usize, delay: Sums)

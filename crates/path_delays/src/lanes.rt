@@ -1,4 +1,4 @@
-ghost use Rattle.std.specs.Prelude.{◌<◌, ◌≤◌, ◌+◌};
+ghost use Rattle.std.specs.Prelude.{◌<◌, ◌≤◌, ◌+◌, length};
 
 use crate::row::Row;
 use crate::sums::Sums;
@@ -11,6 +11,13 @@ pub(crate) const LANES: usize = 16;
 pub(crate) struct Lane {
     pub(crate) number: usize,
     pub(crate) ghost low: { number < 16 },
+}
+
+/// Up to sixteen items, for each of which a walk has a lane.
+#[derive(Drop)]
+pub(crate) struct Block<'a, T> {
+    pub(crate) items: &'a [T],
+    pub(crate) ghost few: { length items.now ≤ 16 },
 }
 
 /// The sums to a signal from several registers, in a lane each.

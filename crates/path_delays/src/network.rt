@@ -1,5 +1,5 @@
-ghost use Rattle.std.specs.Prelude.{◌≡◌, ◌≢◌, ◌<◌, ◌≤◌, ◌+◌, ◌++◌, ◌^◌, true, IfOk, OnOk, All, AllPairs, length, sum_by};
-ghost use Rattle.path_delays.specs.Vocabulary.{IsLevelsOf, AreWithin, delay_limit, most_of, rank_at, narrow_limit, AreAllReads, AreCapturedUpTo, ArePlaces, IsNetworkOf, all_reads_by};
+ghost use Rattle.std.specs.Prelude.{◌≡◌, ◌<◌, ◌≤◌, ◌+◌, ◌++◌, true, IfOk, OnOk, All, length, sum_by};
+ghost use Rattle.path_delays.specs.Vocabulary.{IsLevelsOf, AreWithin, delay_limit, most_of, rank_at, narrow_limit, AreAllReads, AreCapturedUpTo, AreRanks, IsNetworkOf, all_reads_by};
 
 use crate::gate_delays::gate_delays;
 use crate::launching::input_signals;
@@ -40,7 +40,7 @@ impl Network {
         let pairs = Network::all_reads(alloc, circuit)?;
         let readers = Groups::of(alloc, signals, pairs.as_slice())?;
         let order = Vec::from_slice(alloc, levels.gates())?;
-        let ranks = Network::places(alloc, signals, order.as_slice())?;
+        let ranks = Network::ranks(alloc, circuit, levels)?;
         let delays = gate_delays(alloc, circuit, tech)?;
         let inputs = input_signals(alloc, circuit)?;
         Ok(Network {
@@ -133,19 +133,16 @@ impl Network {
         Ok(())
     }
 
-    // The place of each number in a list, counted from 1, or 0 where it isn't in the list.
-    fn places(alloc: Global, numbers: usize, order: &[u32]) -> Result<Vec<u32>, NoMemory>
-        requires within { All (λ number. number < numbers) order.now }
-        requires once { AllPairs (λ first second. first ≢ second) order.now }
-        requires few { length order.now < 2 ^ 32 }
-        ensures { IfOk result
-            (λ places. ArePlaces numbers order.now (length order.now) places.items) }
+    // The place of each gate in the order of the levels, counted from 1, and 0 for what is no gate.
+    fn ranks(alloc: Global, circuit: &Circuit, levels: &Levels) -> Result<Vec<u32>, NoMemory>
+        requires { IsLevelsOf circuit.now levels.now }
+        ensures { IfOk result (λ ranks. AreRanks circuit.now.signals levels.now ranks.items) }
     {
-        let mut places = vec![in alloc; 0u32; numbers]?;
-        for (place, number) in order.iter().enumerate() {
-            places[*number as usize] = place as u32 + 1;
+        let mut ranks = vec![in alloc; 0u32; circuit.signals.len()]?;
+        for (place, gate) in levels.gates().iter().enumerate() {
+            ranks[*gate as usize] = place as u32 + 1;
         }
-        Ok(places)
+        Ok(ranks)
     }
 }
 

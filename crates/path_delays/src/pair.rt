@@ -1,7 +1,7 @@
 ghost use Rattle.std.specs.Prelude.{◌≡◌, ◌<◌, ℕ, List, length, Contains, IfOk};
 ghost use Rattle.path_delays.specs.Vocabulary.{Circuit, Tech, IsLevelsOf, Walk, ReachesEach, sums_to, AreCapturedBy, AreExtremesIfAny, StandsAt, either_sums, IsJoinedBy};
 
-use crate::lanes::Lane;
+use crate::lanes::{Block, Lane};
 use crate::sums::Sums;
 use crate::walk::Walk;
 use cts_base::NoMemory;
@@ -29,7 +29,10 @@ pub fn pair_delay(
     ensures { IfOk result (IsJoinedBy circuit.now tech.now from to) }
 {
     let mut walk = Walk::new(alloc, circuit, levels, tech)?;
-    walk.walk_between(circuit, tech, &[(from, to)]);
+    let pairs = Block {
+        items: &[(from, to)],
+    };
+    walk.walk_between(circuit, tech, &pairs);
     let captured = circuit.register_signal(to as usize).fan_in.as_slice();
     Ok(joined_pair(from, to, captured_sums(&walk, Lane { number: 0 }, captured)))
 }

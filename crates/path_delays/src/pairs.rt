@@ -1,13 +1,13 @@
-ghost use Rattle.std.specs.Prelude.{◌≡◌, ◌<◌, ◌≤◌, ◌+◌, ◌-◌, ◌++◌, ℕ, All, length, vec_len, IfErr, OnOk};
-ghost use Rattle.path_delays.specs.Vocabulary.{option_to_list, Tech, HasReach, IsRoomFor, AreAllReached, IsCapture, IsCapturingOf, registers_of, ListsPairsBefore, ShowsTooMany, MeetsLimit, pair_limit};
+ghost use Rattle.std.specs.Prelude.{◌≡◌, ◌<◌, ◌≤◌, ◌+◌, ◌++◌, All, length, vec_len, IfErr, IfOk, OnOk};
+ghost use Rattle.path_delays.specs.Vocabulary.{option_to_list, Tech, HasReach, AreAllReached, IsCapture, IsCapturingOf, registers_of, ListsPairsBefore, ShowsTooMany, MeetsLimit, pair_limit};
 
 use crate::PairFault;
 use crate::capturing::{Capture, Capturing, list_captures};
-use crate::lanes::{LANES, Lane};
+use crate::lanes::Lane;
 use crate::pair::{captured_sums, joined_pair};
 use crate::path_search::Paths;
-use crate::walk::{Launches, Walk};
-use cts_model::{Circuit, PairDelay, Tech};
+use crate::walk::Walk;
+use cts_model::{Circuit, PairDelay};
 
 /// How many joined pairs of registers a circuit may have.
 const MAX_PAIRS: usize = 1_048_576;
@@ -20,27 +20,26 @@ pub(crate) struct PairList {
 }
 
 impl Paths<'_> {
-    /// Appends the pairs of up to sixteen registers that launch, from one number up to another.
+    /// Appends the pairs of up to sixteen registers that launch, from one number on. It tells the
+    /// number after theirs.
     pub(crate) fn push_block(
         &mut self,
         pairs: &mut PairList,
         capturing: &mut Capturing,
         first: usize,
-        end: usize,
-    ) -> Result<(), PairFault>
-        requires after { first < end }
-        requires short { end ≤ first + 16 }
-        requires within { end ≤ length self.old.circuit.registers }
+    ) -> Result<usize, PairFault>
+        requires first { first < length self.old.circuit.registers }
         requires capturing { IsCapturingOf self.old.circuit capturing.old }
         requires listed { ListsPairsBefore self.old.circuit self.old.tech first 0
             pairs.old.list.items }
         ensures same { self.new ≡ self.old }
-        ensures capturing { OnOk result (IsCapturingOf self.old.circuit capturing.new) }
-        ensures listed { OnOk result
-            (ListsPairsBefore self.old.circuit self.old.tech end 0 pairs.new.list.items) }
+        ensures capturing { IfOk result (λ _. IsCapturingOf self.old.circuit capturing.new) }
+        ensures after { IfOk result (λ end. first < end) }
+        ensures listed { IfOk result (λ end.
+            ListsPairsBefore self.old.circuit self.old.tech end 0 pairs.new.list.items) }
         ensures many { IfErr result (ShowsTooMany self.old.circuit) }
     {
-        walk_block(&mut self.walk, self.circuit, self.tech, first, end);
+        let end = self.walk.walk_block(self.circuit, self.tech, first);
         capturing.gather(&self.walk)?;
         let registers = capturing.registers.as_slice();
         list_captures(&mut capturing.captures, &self.walk, self.circuit, registers)?;
@@ -51,29 +50,8 @@ impl Paths<'_> {
             };
             push_pairs_from(pairs, &self.walk, captures, self.circuit, lane, from as u32)?;
         }
-        Ok(())
+        Ok(end)
     }
-}
-
-// Walks from up to sixteen registers, from one number up to another.
-fn walk_block(walk: &mut Walk, circuit: &Circuit, tech: &Tech, first: usize, end: usize)
-    requires after { first < end }
-    requires short { end ≤ first + 16 }
-    requires within { end ≤ length circuit.now.registers }
-    requires room { IsRoomFor circuit.now tech.now walk.old }
-    ensures room { IsRoomFor circuit.now tech.now walk.new }
-    ensures reach { (from : ℕ) → first ≤ from → from < end
-        → HasReach circuit.now tech.now from (from - first) walk.new }
-{
-    let mut registers = [0; LANES];
-    for from in first..end {
-        registers[from - first] = from as u32;
-    }
-    walk.walk_from(&Launches {
-        circuit,
-        tech,
-        registers: &registers[..end - first],
-    });
 }
 
 // Appends the pairs of the register that launches, which is walked from in a lane, with what the

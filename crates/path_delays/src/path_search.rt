@@ -4,7 +4,7 @@ ghost use Rattle.path_delays.specs.Vocabulary.{ArePathsWithin, IsConstraintOf, J
 use crate::PairFault;
 use crate::capturing::Capturing;
 use crate::extreme_path::path_back;
-use crate::lanes::{Lane, block_end};
+use crate::lanes::{Block, Lane, block_end};
 use crate::pairs::PairList;
 use crate::walk::Walk;
 use cts_base::{Listed, NoMemory};
@@ -78,9 +78,7 @@ impl<'a> Paths<'a> {
         };
         let mut first = 0;
         while first < self.circuit.registers.len() {
-            let end = block_end(first, self.circuit.registers.len());
-            self.push_block(&mut pairs, &mut capturing, first, end)?;
-            first = end;
+            first = self.push_block(&mut pairs, &mut capturing, first)?;
         }
         Ok(Listed::from_vec(pairs.list))
     }
@@ -107,7 +105,10 @@ impl<'a> Paths<'a> {
         let mut first = 0;
         while first < pairs.len() {
             let end = block_end(first, pairs.len());
-            self.push_delays(&mut delays, &pairs[first..end])?;
+            let block = Block {
+                items: &pairs[first..end],
+            };
+            self.push_delays(&mut delays, &block)?;
             first = end;
         }
         Ok(Listed::from_vec(delays))
@@ -132,8 +133,10 @@ impl<'a> Paths<'a> {
             (IsExtremeIfAny self.old.circuit self.old.tech from to greatest) }
         ensures same { self.new ≡ self.old }
     {
-        self.walk
-            .walk_between(self.circuit, self.tech, &[(from, to)]);
+        let pairs = Block {
+            items: &[(from, to)],
+        };
+        self.walk.walk_between(self.circuit, self.tech, &pairs);
         path_back(
             &self.walk,
             alloc,
@@ -167,7 +170,10 @@ impl<'a> Paths<'a> {
         let mut first = 0;
         while first < constraints.len() {
             let end = block_end(first, constraints.len());
-            room = self.push_paths(&mut paths, alloc, &constraints[first..end], room)?;
+            let block = Block {
+                items: &constraints[first..end],
+            };
+            room = self.push_paths(&mut paths, alloc, &block, room)?;
             first = end;
         }
         Ok(paths)

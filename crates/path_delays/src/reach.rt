@@ -1,5 +1,5 @@
 ghost use Rattle.std.specs.Prelude.{◌≡◌, ◌<◌, ◌*◌, ◌^◌, Some, IfOk, if◌then◌else◌, length};
-ghost use Rattle.path_delays.specs.Vocabulary.{Lanes, AreWithin, delay_limit, AllBounded, rows_of, narrow_limit, CanHandOn, HasReachRoom, HasRoomAt, IsCleared, IsHanded, IsHandedOn, IsMarked, IsOpened, IsSameRoom, IsStarted, lanes_at, limit_of, sums_at};
+ghost use Rattle.path_delays.specs.Vocabulary.{Lanes, AreWithin, delay_limit, rows_of, narrow_limit, CanHandOn, HasReachRoom, HasRoomAt, IsCleared, IsHanded, IsHandedOn, IsMarked, IsSameRoom, lanes_at, limit_of, sums_at};
 
 use crate::lane_table::LaneTable;
 use crate::lanes::Lane;
@@ -63,18 +63,15 @@ impl Reach {
         self.lanes.sums(signal as usize, lane)
     }
 
-    /// Reaches a signal in a lane, and hands its sums to its readers.
-    pub(crate) fn start(&mut self, network: &Network, lane: Lane, signal: u32, sums: Sums)
-        requires room { HasReachRoom network.now self.old }
-        requires signal { signal < length network.now.ranks.items }
+    /// Reaches a signal in a lane.
+    pub(crate) fn mark(&mut self, lane: Lane, signal: u32, sums: Sums)
+        requires room { HasRoomAt signal self.old }
         requires sums { AreWithin (limit_of self.old) sums }
-        requires small { (given : Lanes)
-            → lanes_at self.old signal ≡ Some given → AllBounded (limit_of self.old) given }
-        ensures started { IsStarted network.now lane.number signal sums self.old self.new }
-        ensures room { HasReachRoom network.now self.new }
+        ensures { IsMarked lane.number signal sums self.old self.new }
     {
-        self.mark(lane, signal, sums);
-        self.hand_on(network, signal);
+        let first = !self.reached.contains(signal);
+        self.reached.insert(signal);
+        self.lanes.join(signal as usize, lane, sums, first);
     }
 
     /// Hands the sums to a signal to each gate that reads it.
@@ -102,27 +99,6 @@ impl Reach {
             self.reached.insert(gate);
             self.lanes.pass(signal as usize, gate as usize, delay);
             self.waiting.insert(network.ranks[gate as usize]);
-        }
-    }
-
-    // Reaches a signal in a lane.
-    fn mark(&mut self, lane: Lane, signal: u32, sums: Sums)
-        requires room { HasRoomAt signal self.old }
-        requires sums { AreWithin (limit_of self.old) sums }
-        ensures { IsMarked lane.number signal sums self.old self.new }
-    {
-        self.open(signal);
-        self.lanes.join(signal as usize, lane, sums);
-    }
-
-    // Reaches a signal, with no sums where it wasn't reached.
-    fn open(&mut self, signal: u32)
-        requires { HasRoomAt signal self.old }
-        ensures { IsOpened signal self.old self.new }
-    {
-        if !self.reached.contains(signal) {
-            self.reached.insert(signal);
-            self.lanes.clear(signal as usize);
         }
     }
 }

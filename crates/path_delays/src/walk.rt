@@ -1,7 +1,7 @@
-ghost use Rattle.std.specs.Prelude.{◌≡◌, ◌<◌, ◌≤◌, ◌+◌, ℕ, false, None, All, IfOk, IsTrue, length, slice_index_or};
-ghost use Rattle.path_delays.specs.Vocabulary.{IsLevelsOf, IsCommon, has_number, HaveReach, HaveReachBetween, IsRoomFor, sums_to, IsNetworkOf, HasReachRoom, IsCleared, HaveReachedUpTo, IsSpreadBelow};
+ghost use Rattle.std.specs.Prelude.{◌≡◌, ◌<◌, ◌≤◌, ◌+◌, ◌-◌, ℕ, false, None, All, IfOk, IsTrue, length, slice_index_or};
+ghost use Rattle.path_delays.specs.Vocabulary.{IsLevelsOf, has_number, HasReach, HaveReachBetween, IsRoomFor, sums_to, IsNetworkOf, HasReachRoom, HaveReachedUpTo, IsSpreadBelow};
 
-use crate::lanes::{LANES, Lane};
+use crate::lanes::{Block, LANES, Lane, block_end};
 use crate::launching::{launched, start_sums};
 use crate::network::Network;
 use crate::number_set::NumberSet;
@@ -47,50 +47,64 @@ impl Walk {
         Ok(Walk { network, reach })
     }
 
-    /// Walks from up to sixteen registers to all that they reach, from the lowest rank to the
-    /// highest, each register in a lane. It takes no memory.
-    pub(crate) fn walk_from(&mut self, from: &Launches<'_>)
-        requires { IsRoomFor from.now.circuit.now from.now.tech.now self.old }
-        ensures reach { HaveReach from.now.circuit.now from.now.tech.now from.now.registers.now
-            self.new }
-        ensures room { IsRoomFor from.now.circuit.now from.now.tech.now self.new }
+    /// Walks from up to sixteen registers, from one number on, to all that they reach, each in a
+    /// lane. It tells the number after theirs, and takes no memory.
+    pub(crate) fn walk_block(&mut self, circuit: &Circuit, tech: &Tech, first: usize) -> usize
+        requires first { first < length circuit.now.registers }
+        requires room { IsRoomFor circuit.now tech.now self.old }
+        ensures room { IsRoomFor circuit.now tech.now self.new }
+        ensures after { first < result }
+        ensures within { result ≤ length circuit.now.registers }
+        ensures few { result ≤ first + 16 }
+        ensures reach { (from : ℕ) → first ≤ from → from < result
+            → HasReach circuit.now tech.now from (from - first) self.new }
     {
-        self.reach.reach_up_to(&self.network, from, u32::MAX);
+        let end = block_end(first, circuit.registers.len());
+        let mut registers = [0; LANES];
+        for from in first..end {
+            registers[from - first] = from as u32;
+        }
+        let launches = Launches {
+            circuit,
+            tech,
+            registers: &registers[..end - first],
+        };
+        self.reach.reach_up_to(&self.network, &launches, u32::MAX);
+        end
     }
 
     /// Walks from the first of each of up to sixteen pairs of registers, each in a lane, up to the
     /// highest rank of what the second ones capture. It takes no memory.
-    pub(crate) fn walk_between(&mut self, circuit: &Circuit, tech: &Tech, pairs: &[(u32, u32)])
+    pub(crate) fn walk_between(
+        &mut self,
+        circuit: &Circuit,
+        tech: &Tech,
+        pairs: &Block<'_, (u32, u32)>,
+    )
         requires room { IsRoomFor circuit.now tech.now self.old }
-        requires few { length pairs.now ≤ 16 }
         requires pairs { All (λ pair. (pair.0 < length circuit.now.registers)
-            × (pair.1 < length circuit.now.registers)) pairs.now }
-        ensures reach { HaveReachBetween circuit.now tech.now pairs.now self.new }
+            × (pair.1 < length circuit.now.registers)) pairs.now.items.now }
+        ensures reach { HaveReachBetween circuit.now tech.now pairs.now.items.now self.new }
         ensures room { IsRoomFor circuit.now tech.now self.new }
     {
-        let top = self.network.top_captured(circuit, pairs);
+        let top = self.network.top_captured(circuit, pairs.items);
         let mut registers = [0; LANES];
-        for (lane, pair) in pairs.iter().enumerate() {
+        for (lane, pair) in pairs.items.iter().enumerate() {
             registers[lane] = pair.0;
         }
         let from = Launches {
             circuit,
             tech,
-            registers: &registers[..pairs.len()],
+            registers: &registers[..pairs.items.len()],
         };
         self.reach.reach_up_to(&self.network, &from, top);
     }
 
-    /// Finds which of some signals the register reaches.
-    pub(crate) fn reached_among(&self, signals: &NumberSet, reached: &mut NumberSet)
-        requires signals { length reached.old.words.items ≤ length signals.now.words.items }
-        requires walk { length reached.old.words.items
-            ≤ length self.now.reach.reached.words.items }
-        ensures covers { length reached.new.words.items ≡ length reached.old.words.items }
-        ensures common { IsCommon signals.now.words.items self.now.reach.reached.words.items
-            reached.new.words.items }
+    /// The signals that any register reaches.
+    pub(crate) fn reached(&self) -> &NumberSet
+        ensures { result.now ≡ self.now.reach.reached }
     {
-        reached.become_common(signals, &self.reach.reached);
+        &self.reach.reached
     }
 
     /// The sums to a signal from the register in a lane, `None` where that doesn't reach it.
@@ -98,13 +112,6 @@ impl Walk {
         ensures { result ≡ sums_to self.now lane.number signal }
     {
         self.reach.sums_at(lane, signal)
-    }
-
-    /// Whether any register reaches the signal.
-    pub(crate) fn reaches(&self, signal: u32) -> bool
-        ensures { result ≡ has_number self.now.reach.reached.words.items signal }
-    {
-        self.reach.reached.contains(signal)
     }
 
     /// The sums to a signal that some register reaches, from the one in a lane, `None` where that
@@ -136,7 +143,9 @@ impl Reach {
         ensures room { HasReachRoom network.now self.new }
     {
         self.clear();
-        self.launch_all(network, from);
+        for lane in 0..from.registers.len() {
+            self.launch(network, from, lane);
+        }
         let mut rank = 1;
         while let Some(next) = self.waiting.take_lowest(rank) {
             if next > top {
@@ -147,21 +156,7 @@ impl Reach {
         }
     }
 
-    // Starts at what each of some registers launches.
-    fn launch_all(&mut self, network: &Network, from: &Launches<'_>)
-        requires network { IsNetworkOf from.now.circuit.now from.now.tech.now network.now }
-        requires room { HasReachRoom network.now self.old }
-        requires clear { IsCleared self.old }
-        ensures spread { IsSpreadBelow from.now.circuit.now from.now.tech.now network.now
-            from.now.registers.now (length from.now.registers.now) 1 self.new }
-        ensures room { HasReachRoom network.now self.new }
-    {
-        for lane in 0..from.registers.len() {
-            self.launch(network, from, lane);
-        }
-    }
-
-    // Starts in a lane at each signal that its register launches.
+    // Reaches in a lane each signal that its register launches, and hands the sums on.
     fn launch(&mut self, network: &Network, from: &Launches<'_>, lane: usize)
         requires network { IsNetworkOf from.now.circuit.now from.now.tech.now network.now }
         requires room { HasReachRoom network.now self.old }
@@ -175,7 +170,8 @@ impl Reach {
         let sums = start_sums(from.tech);
         let register = from.registers[lane] as usize;
         for signal in launched(from.circuit, network.inputs.as_slice(), register) {
-            self.start(network, Lane { number: lane }, *signal, sums);
+            self.mark(Lane { number: lane }, *signal, sums);
+            self.hand_on(network, *signal);
         }
     }
 }

@@ -14,7 +14,7 @@ returns-in-len1-clause-capture c circuit exact =
             subst (AreCapturedBy circuit c.args.register)
                 (alone ∙ ap (λ (n : ℕ). n ∷ []) same) exact,
             subst (λ n. IsTrue (has_number walk.reach.reached.words.items n)) same
-                (sym c.reaches.ensures ∙ c.if-reaches.true),
+                (rw c.reached.ensures at (sym c.contains.ensures ∙ c.if-contains.true)),
           );
       missed = λ lane signal low missed captures.
           let (place, within, here) = (exact signal).1 captures in

@@ -9,13 +9,13 @@ walk_between-requires-clause-pairs c place default inside =
 
 pub returns-clause-reach : goal.returns-clause-reach
 returns-clause-reach c some lane constraint here =
-    let block = c.args.block.now in
+    let block = c.args.block.now.items.now in
     let count = length block in
     let pairs = c.loop-lane.pairs in
     let short = slice_get_within block lane constraint here in
     let covered = length-take count pairs in
     let inside : lane < length (take count pairs) =
-    omega (arith, covered, c.loop-lane.invariant.lanes, c.requires.few) in
+    omega (arith, covered, c.loop-lane.invariant.lanes, c.args.block.now.few) in
     let value : get_or (take count pairs) lane (0, 0) ≡ pair_of constraint =
     get_or-take count pairs lane (0, 0) short
     ∙ c.loop-lane.invariant.each lane constraint (omega (arith, c.loop-lane-test.false)) here in

@@ -8,7 +8,7 @@ insert_all-requires c =
     let begun : Capturing = record {
       capturers = c.args.self.now.capturers;
       captured = c.args.self.now.captured;
-      reached = c.reached_among.new.reached;
+      reached = c.become_common.new.self;
       found = c.clear.new.self;
       registers = c.args.self.now.registers;
       captures = c.args.self.now.captures;
@@ -17,7 +17,7 @@ insert_all-requires c =
     (record {
       capturers = refl;
       captured = refl;
-      reached = c.reached_among.ensures.covers;
+      reached = c.become_common.ensures.covers;
       found = c.clear.ensures.covers;
     }) c.requires.room in
     rw c.group.ensures (gathering_room c.args.walk.now begun c.loop-signal.self c.loop-signal.next
@@ -28,7 +28,7 @@ loop-signal-preserved c =
     let begun : Capturing = record {
       capturers = c.args.self.now.capturers;
       captured = c.args.self.now.captured;
-      reached = c.reached_among.new.reached;
+      reached = c.become_common.new.self;
       found = c.clear.new.self;
       registers = c.args.self.now.registers;
       captures = c.args.self.now.captures;
@@ -55,7 +55,7 @@ returns c =
     let begun : Capturing = record {
       capturers = c.args.self.now.capturers;
       captured = c.args.self.now.captured;
-      reached = c.reached_among.new.reached;
+      reached = c.become_common.new.self;
       found = c.clear.new.self;
       registers = c.args.self.now.registers;
       captures = c.args.self.now.captures;
@@ -72,7 +72,7 @@ returns c =
     (record {
       capturers = refl;
       captured = refl;
-      reached = c.reached_among.ensures.covers;
+      reached = c.become_common.ensures.covers;
       found = c.clear.ensures.covers;
     })
     (record {

@@ -1,12 +1,7 @@
 -- The readers, the ranks and the delays are those of the circuit.
 use Rattle.path_delays.proofs.Vocabulary.{◌≡◌, arith, ◌∙◌, common_steps}
-use Rattle.path_delays.proofs.NetworkLemmas.{AreReaders-grouped, AreRanks-placed, few_gates}
+use Rattle.path_delays.proofs.NetworkLemmas.{AreReaders-grouped}
 use Rattle.path_delays.proofs.network.Network.new.Goals as goal
-
-pub places-requires-clause-few : goal.places-requires-clause-few
-places-requires-clause-few c =
-    rw (c.as_slice-2.ensures.value, c.in_ok-order.ensures.items, c.gates.ensures)
-    (omega (arith, few_gates c.args.circuit.now c.args.levels.now c.requires))
 
 pub returns-clause-network : goal.returns-clause-network
 returns-clause-network c =
@@ -17,9 +12,7 @@ returns-clause-network c =
       readers = AreReaders-grouped circuit.signals c.in_ok-pairs.pairs.items c.in_ok-readers.readers
           circuit.valid.read c.in_ok-pairs.ensures
           (rw (c.len-signals.ensures, c.as_slice.ensures.value) at c.in_ok-readers.ensures);
-      ranks = rw order
-          (AreRanks-placed circuit.signals c.args.levels.now c.in_ok-ranks.ranks.items c.requires
-          (rw (c.len-signals.ensures, c.as_slice-2.ensures.value, order) at c.in_ok-ranks.ensures));
+      ranks = rw order c.in_ok-ranks.ensures;
       once = rw order c.requires.once;
       delays = c.in_ok-delays.ensures;
       inputs = c.in_ok-inputs.ensures;

@@ -7,8 +7,8 @@ pub list_captures-requires : goal.list_captures-requires
 list_captures-requires c =
     let from = c.args.first in
     rw c.as_slice-registers.ensures.value (gathered_from c.self.inside.circuit.now
-    c.self.inside.tech.now from (from - from) c.walk_block.new.walk c.args.capturing.now
-    c.gather.new.self (c.walk_block.ensures.reach from (omega arith) c.requires.after)
+    c.self.inside.tech.now from (from - from) c.walk_block-end.new.self c.args.capturing.now
+    c.gather.new.self (c.walk_block-end.ensures.reach from (omega arith) c.walk_block-end.ensures.after)
     (rw (← c.self.view_is) at c.requires.capturing)
     c.in_ok-gather.ensures).within
 
@@ -21,8 +21,8 @@ push_pairs_from-requires-clause-registers c =
       c.as_slice-registers.ensures.value,
     )
     (gathered_from c.self.inside.circuit.now c.self.inside.tech.now from
-    (from - c.args.first) c.walk_block.new.walk c.args.capturing.now c.gather.new.self
-    (c.walk_block.ensures.reach from (omega arith) (omega arith))
+    (from - c.args.first) c.walk_block-end.new.self c.args.capturing.now c.gather.new.self
+    (c.walk_block-end.ensures.reach from (omega arith) (omega arith))
     (rw (← c.self.view_is) at c.requires.capturing)
     c.in_ok-gather.ensures)
 

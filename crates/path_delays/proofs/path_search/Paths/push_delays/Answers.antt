@@ -8,7 +8,7 @@ pub loop-lane-preserved : goal.loop-lane-preserved
 loop-lane-preserved c passed before =
     let circuit = c.self.inside.circuit.now in
     let tech = c.self.inside.tech.now in
-    let pairs = c.args.pairs.now in
+    let pairs = c.args.pairs.now.items.now in
     let lane = c.loop-lane.lane in
     let pair = get_or pairs lane (0, 0) in
     let reach = c.walk_between.ensures.reach lane pair.0 pair.1

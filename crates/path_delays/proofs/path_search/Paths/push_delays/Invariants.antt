@@ -6,4 +6,4 @@ abbrev pub invariant-loop-lane : goal.invariant-loop-lane
 invariant-loop-lane l = (passed : List (ℕ × ℕ))
     → AreDelaysBetween l.self-inside.circuit.now l.self-inside.tech.now passed
     l.initial.delays.items → AreDelaysBetween l.self-inside.circuit.now l.self-inside.tech.now
-    (passed ++ take l.lane l.pairs) l.delays.items
+    (passed ++ take l.lane l.pairs.items.now) l.delays.items

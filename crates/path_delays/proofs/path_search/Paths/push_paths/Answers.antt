@@ -8,7 +8,7 @@ path_within-requires-clause-ranks c = c.walk_along.ensures.room.network.ranks
 
 pub path_within-requires-clause-to : goal.path_within-requires-clause-to
 path_within-requires-clause-to c = (pair_within c.self.inside.circuit.now c.self.inside.tech.now _
-    ((rw (← c.self.view_is) at c.requires.each) c.loop-lane.lane _ c.loop-lane-test.true)).1
+    ((rw (← c.self.view_is) at c.requires) c.loop-lane.lane _ c.loop-lane-test.true)).1
 
 pub loop-lane-init : goal.loop-lane-init
 loop-lane-init c = grind (arith, keeps_none)
@@ -17,11 +17,11 @@ pub loop-lane-preserved : goal.loop-lane-preserved
 loop-lane-preserved c =
     let circuit = c.self.inside.circuit.now in
     let tech = c.self.inside.tech.now in
-    let block = c.args.block.now in
+    let block = c.args.block.now.items.now in
     let lane = c.loop-lane.lane in
     let less = c.loop-lane.invariant.less in
     let found = c.in_ok-path.ensures.path tech
-    ((rw (← c.self.view_is) at c.requires.each) lane _ c.loop-lane-test.true)
+    ((rw (← c.self.view_is) at c.requires) lane _ c.loop-lane-test.true)
     (λ some. c.walk_along.ensures.reach (omega (arith, less)) lane _
     (slice_get-get_or block lane _ c.loop-lane-test.true)) in
     record {

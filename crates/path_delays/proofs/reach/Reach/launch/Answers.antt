@@ -1,7 +1,8 @@
 -- One signal more, and all of them.
-use Rattle.path_delays.proofs.Vocabulary.{◌≡◌, length, take, get_or, subst, arith, Contains-get_or, slice_get-get_or, AllBelow, BegunIn, IsSpread}
+use Rattle.path_delays.proofs.Vocabulary.{◌≡◌, ◌<◌, length, take, get_or, subst, arith, rules, Contains-get_or, slice_get-get_or, AllBelow, BegunIn, IsSpread}
+use Rattle.path_delays.proofs.Hands.{HasReachRoom-same}
 use Rattle.path_delays.proofs.LaunchLemmas.{launched_within}
-use Rattle.path_delays.proofs.WalkStarts.{begun_all, begun_next, begun_none, start_bounded}
+use Rattle.path_delays.proofs.WalkStarts.{begun_all, begun_next, begun_none, marked_bounded, start_bounded}
 use Rattle.path_delays.proofs.WalkSteps.{all_bounded}
 use Rattle.path_delays.proofs.reach.Reach.launch.Goals as goal
 
@@ -12,24 +13,47 @@ launched-signal-items-requires-clause-inputs c =
 pub loop-signal-init : goal.loop-signal-init
 loop-signal-init c = search (arith, begun_none, slice_get-get_or)
 
-pub start-requires-clause-signal : goal.start-requires-clause-signal
-start-requires-clause-signal c =
+pub mark-requires-clause-room : goal.mark-requires-clause-room
+mark-requires-clause-room c =
     let launched = c.launched-signal-items.result.now in
     let place = c.loop-signal.signal-index in
     let signal = get_or launched place 0 in
-    omega (
+    let room = c.loop-signal.invariant.room in
+    let inside : signal < length c.args.network.now.ranks.items = omega (
       arith,
       launched_within c.args.from.now.circuit.now _ signal
           ((c.launched-signal-items.ensures signal).0
           (Contains-get_or launched place 0 c.loop-signal-test.true)),
       c.requires.network.ranks.covers,
-    )
+    ) in
+    record { row = omega (arith, inside, room.lanes); bit = omega (arith, inside, room.reached) }
 
-pub start-requires-clause-sums : goal.start-requires-clause-sums
-start-requires-clause-sums c = grind (arith, start_bounded)
+pub mark-requires-clause-sums : goal.mark-requires-clause-sums
+mark-requires-clause-sums c = grind (arith, start_bounded)
 
-pub start-requires-clause-small : goal.start-requires-clause-small
-start-requires-clause-small c = grind (arith, all_bounded)
+pub hand_on-requires : goal.hand_on-requires
+hand_on-requires c =
+    let launched = c.launched-signal-items.result.now in
+    let place = c.loop-signal.signal-index in
+    let signal = get_or launched place 0 in
+    let network = c.args.network.now in
+    let old = c.loop-signal.self in
+    let room = c.loop-signal.invariant.room in
+    record {
+      room = HasReachRoom-same network old c.mark.new.self c.mark.ensures.room room;
+      inside = omega (
+        arith,
+        launched_within c.args.from.now.circuit.now _ signal
+            ((c.launched-signal-items.ensures signal).0
+            (Contains-get_or launched place 0 c.loop-signal-test.true)),
+        c.requires.network.ranks.covers,
+      );
+      reached = search rules;
+      small = marked_bounded old c.mark.new.self c.args.lane signal c.start_sums-sums.result
+          (rw c.start_sums-sums.ensures.sums
+          (start_bounded network old c.args.from.now.tech.now room)) c.mark.ensures
+          (λ given here. grind (arith, all_bounded));
+    }
 
 pub loop-signal-preserved : goal.loop-signal-preserved
 loop-signal-preserved c = record {
@@ -37,11 +61,12 @@ loop-signal-preserved c = record {
       c.requires.network c.args.from.now.registers.now c.args.lane _
       (slice_get-get_or c.args.from.now.registers.now c.args.lane 0 c.requires.lane)
       c.launched-signal-items.result.now
-      c.launched-signal-items.ensures c.loop-signal.self c.start.new.self
+      c.launched-signal-items.ensures c.loop-signal.self c.hand_on.new.self
       c.loop-signal.signal-index (omega (arith, c.args.from.now.few, c.requires.lane))
-      c.loop-signal-test.true (rw c.start_sums-sums.ensures.sums at c.start.ensures.started)
+      c.loop-signal-test.true
+      (c.mark.new.self, rw c.start_sums-sums.ensures.sums at c.mark.ensures, c.hand_on.ensures.on)
       c.loop-signal.invariant.spread;
-  room = c.start.ensures.room;
+  room = c.hand_on.ensures.room;
 }
 
 pub returns : goal.returns

@@ -3,8 +3,17 @@ use Rattle.path_delays.proofs.Vocabulary.{◌≡◌, ◌+◌, ◌∙◌, ℕ, le
 use Rattle.path_delays.proofs.Hands.{HasReachRoom-same}
 use Rattle.path_delays.proofs.LaneLemmas.{some_is}
 use Rattle.path_delays.proofs.WalkEnds.{reach_shown}
+use Rattle.path_delays.proofs.WalkStarts.{IsSpread-none}
 use Rattle.path_delays.proofs.WalkSteps.{all_bounded, next_gate, next_within, IsSpread-taken, IsSpread-on}
 use Rattle.path_delays.proofs.reach.Reach.reach_up_to.Goals as goal
+
+pub loop-lane-init : goal.loop-lane-init
+loop-lane-init c = record {
+  spread = IsSpread-none c.args.from.now.circuit.now c.args.from.now.tech.now c.args.network.now
+      c.requires.network c.args.from.now.registers.now c.clear.new.self c.clear.ensures.clear;
+  room = HasReachRoom-same c.args.network.now c.args.self.now c.clear.new.self
+      c.clear.ensures.room c.requires.room;
+}
 
 pub index-requires : goal.index-requires
 index-requires c = grind (arith, next_within)

@@ -1,6 +1,14 @@
--- All registers start, and all signals below the rank have handed on their sums.
+-- The registers passed so far start, each in its lane, and then all signals below the rank hand on
+-- their sums.
 use Rattle.path_delays.proofs.Vocabulary.{◌+◌, ◌-◌, ◌≤◌, length, HasReachRoom, IsSpreadBelow}
 use Rattle.path_delays.proofs.reach.Reach.reach_up_to.Given as goal
+
+abbrev pub invariant-loop-lane : goal.invariant-loop-lane
+invariant-loop-lane l = record {
+  spread : IsSpreadBelow l.from.circuit.now l.from.tech.now l.network l.from.registers.now l.lane 1
+      l.self;
+  room : HasReachRoom l.network l.self;
+}
 
 abbrev pub invariant-loop-next : goal.invariant-loop-next
 invariant-loop-next l = record {

@@ -10,12 +10,12 @@ invariant_of-from c = record {
 
 pub returns-clause-reach : goal.returns-clause-reach
 returns-clause-reach c lane from to here =
-    let pairs = c.args.pairs.now in
+    let pairs = c.args.pairs.now.items.now in
     let registers = c.loop-lane.registers in
     let short = slice_get_within pairs lane (from, to) here in
     let covered = length-take (length pairs) registers in
     let inside : lane < length (take (length pairs) registers) =
-    omega (arith, covered, c.loop-lane.invariant.lanes, c.requires.few) in
+    omega (arith, covered, c.loop-lane.invariant.lanes, c.args.pairs.now.few) in
     let pair : get_or pairs lane (0, 0) ≡ (from, to) =
     same_Some (get_or pairs lane (0, 0)) (from, to)
     (sym (slice_get-get_or pairs lane (0, 0) short) ∙ here) in

@@ -6,5 +6,5 @@ abbrev pub invariant-loop-lane : goal.invariant-loop-lane
 invariant-loop-lane l = record {
   lanes : length l.registers ≡ 16;
   each : (lane : ℕ) → lane < l.lane
-      → get_or l.registers lane 0 ≡ (get_or l.pairs lane (0, 0)).0;
+      → get_or l.registers lane 0 ≡ (get_or l.pairs.items.now lane (0, 0)).0;
 }

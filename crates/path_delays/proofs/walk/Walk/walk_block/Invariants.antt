@@ -1,6 +1,6 @@
 -- The registers passed so far stand in their lanes.
 use Rattle.std.proofs.Common.{◌≡◌, ◌<◌, ◌≤◌, ◌-◌, ℕ, length, get_or}
-use Rattle.path_delays.proofs.pairs.walk_block.Given as goal
+use Rattle.path_delays.proofs.walk.Walk.walk_block.Given as goal
 
 abbrev pub invariant-loop-from : goal.invariant-loop-from
 invariant-loop-from l = record {
