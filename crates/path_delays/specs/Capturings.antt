@@ -56,9 +56,10 @@ pub record AreAllReached (circuit : Circuit) (from : ℕ) (registers : List ℕ)
   pub ascending : AllPairs ◌<◌ registers
   pub joined : (to : ℕ) (path : List ℕ) → IsPath circuit from to path → Contains registers to
 
--- what a walk found at what a register captures: the single signal is reached, and nothing is found
--- in the lanes that are false
+-- what a walk found at what a register of the circuit captures: the single signal is reached, and
+-- nothing is found in the lanes that are false
 pub record IsCapture (circuit : Circuit) (walk : Walk) (capture : Capture) : Type 0 where
+  pub within : capture.register < length circuit.registers
   pub single : (signal : ℕ) → capture.single ≡ Some signal
       → AreCapturedBy circuit capture.register (signal ∷ [])
       × IsTrue (has_number walk.reach.reached.words.items signal)

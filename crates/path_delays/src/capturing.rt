@@ -63,8 +63,8 @@ pub(crate) fn list_captures(
 // What a walk found at the signals that a register captures.
 fn capture_of(walk: &Walk, register: u32, captured: &[u32]) -> Capture
     ensures register { result.register ≡ register }
-    ensures capture { (circuit : Circuit) → AreCapturedBy circuit register captured.now
-        → IsCapture circuit walk.now result }
+    ensures capture { (circuit : Circuit) → register < length circuit.registers
+        → AreCapturedBy circuit register captured.now → IsCapture circuit walk.now result }
 {
     match captured {
         [signal] if walk.reached().contains(*signal) => Capture {

@@ -94,8 +94,7 @@ fn push_found(
     from: u32,
     capture: &Capture,
 ) -> Result<(), PairFault>
-    requires to { capture.now.register < length circuit.now.registers }
-    requires capture { IsCapture circuit.now walk.now capture.now }
+    requires { IsCapture circuit.now walk.now capture.now }
     ensures listed { OnOk result ((tech : Tech)
         → HasReach circuit.now tech from lane.number walk.now
         → ListsPairsBefore circuit.now tech from capture.now.register pairs.old.list.items

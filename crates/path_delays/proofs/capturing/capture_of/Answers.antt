@@ -4,11 +4,12 @@ use Rattle.path_delays.proofs.CapturingLemmas.{single_list}
 use Rattle.path_delays.proofs.capturing.capture_of.Goals as goal
 
 pub returns-in-len1-clause-capture : goal.returns-in-len1-clause-capture
-returns-in-len1-clause-capture c circuit exact =
+returns-in-len1-clause-capture c circuit known exact =
     let captured = c.args.captured.now in
     let walk = c.args.walk.now in
     let alone = single_list captured c.in-len1.len_at_least c.in-len1.len_below in
     record {
+      within = known;
       single = λ signal is.
           let same : get_or captured 0 0 ≡ signal = cc is in (
             subst (AreCapturedBy circuit c.args.register)

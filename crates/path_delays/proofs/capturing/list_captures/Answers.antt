@@ -20,6 +20,7 @@ loop-register-preserved c =
           ∙ ap (λ n. take i registers ++ n ∷ []) c.capture_of.ensures.register));
       each = All-push (IsCapture circuit c.args.walk.now) captures capture
           c.loop-register.invariant.each (c.capture_of.ensures.capture circuit
+          (c.requires i 0 c.loop-register-test.true)
           (rw c.as_slice-captured.ensures (captured_is_fan_in circuit (get_or registers i 0)
           c.register_signal.result.now c.register_signal.ensures)));
     })

@@ -7,7 +7,7 @@ use Rattle.path_delays.proofs.ReachedPairs.{captured_is_fan_in}
 use Rattle.path_delays.proofs.pairs.push_found.Goals as goal
 
 pub held_sums-requires : goal.held_sums-requires
-held_sums-requires c = (c.requires.capture.single c.in-Some.signal c.in-Some.is).1
+held_sums-requires c = (c.requires.single c.in-Some.signal c.in-Some.is).1
 
 pub returns-in-Some : goal.returns-in-Some
 returns-in-Some c =
@@ -20,7 +20,7 @@ returns-in-Some c =
     let joined : (tech : Tech) → HasReach circuit tech from lane walk
     → IsJoinedBy circuit tech from to c.joined_pair.result = λ tech reach.
     c.joined_pair.ensures circuit tech lane walk (signal ∷ [])
-    (c.requires.capture.single signal c.in-Some.is).0 (λ other listed. reach.each other)
+    (c.requires.single signal c.in-Some.is).0 (λ other listed. reach.each other)
     (rw c.held_sums.ensures (extremes_single (sums_to walk lane) signal)) in
     record {
       listed = on_ok_weaker c.push_joined.result

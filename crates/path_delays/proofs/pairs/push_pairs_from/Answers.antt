@@ -20,13 +20,6 @@ register_at : (captures : List Capture) (place : ℕ) → place < length capture
 register_at captures place within =
     get_or-map (λ (capture : Capture). capture.register) captures place no_capture 0 within
 
-pub push_found-requires-clause-to : goal.push_found-requires-clause-to
-push_found-requires-clause-to c =
-    let captures = c.args.captures.now in
-    let i = c.loop-capture.capture-index in
-    rw (← register_at captures i c.loop-capture-test.true)
-    (c.requires.registers.within i 0 (omega (arith, as_many captures)))
-
 pub returns-in_err-push_found-clause-many : goal.returns-in_err-push_found-clause-many
 returns-in_err-push_found-clause-many c =
     let fault = err_from_is_err_and c.from_residual.result c.from_residual.ensures.1 in
