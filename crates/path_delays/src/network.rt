@@ -1,5 +1,5 @@
 ghost use Rattle.std.specs.Prelude.{◌≡◌, ◌<◌, ◌≤◌, ◌+◌, ◌++◌, true, IfOk, OnOk, All, length, sum_by};
-ghost use Rattle.path_delays.specs.Vocabulary.{IsLevelsOf, AreWithin, delay_limit, most_of, rank_at, narrow_limit, AreAllReads, AreCapturedUpTo, AreRanks, IsNetworkOf, all_reads_by};
+ghost use Rattle.path_delays.specs.Vocabulary.{IsLevelsOf, AreWithin, delay_limit, most_of, rank_at, narrow_limit, AreAllReads, AreRanks, IsNetworkOf, all_reads_by};
 
 use crate::gate_delays::gate_delays;
 use crate::launching::input_signals;
@@ -52,19 +52,6 @@ impl Network {
         })
     }
 
-    /// The highest rank of what the second registers of some pairs capture.
-    pub(crate) fn top_captured(&self, circuit: &Circuit, pairs: &[(u32, u32)]) -> u32
-        requires { All (λ pair. pair.1 < length circuit.now.registers) pairs.now }
-        ensures { All (λ pair. AreCapturedUpTo circuit.now self.now pair.1 result) pairs.now }
-    {
-        let mut top = 0;
-        for pair in pairs {
-            let captured = circuit.register_signal(pair.1 as usize).fan_in.as_slice();
-            top = higher(top, self.top_of(captured));
-        }
-        top
-    }
-
     /// True only where the greatest delays of all gates together, and a million ticks for the
     /// register, are at most 2^29 - 1, so that lanes of 32 bits hold the sums along each path.
     pub(crate) fn is_short(&self) -> bool
@@ -82,11 +69,12 @@ impl Network {
         true
     }
 
-    // The highest rank of some signals.
-    fn top_of(&self, signals: &[u32]) -> u32
-        ensures { All (λ signal. rank_at self.now signal ≤ result) signals.now }
+    /// The highest of a rank and those of some signals.
+    pub(crate) fn top_of(&self, rank: u32, signals: &[u32]) -> u32
+        ensures rank { rank ≤ result }
+        ensures signals { All (λ signal. rank_at self.now signal ≤ result) signals.now }
     {
-        let mut top = 0;
+        let mut top = rank;
         for signal in signals {
             top = higher(top, self.rank(*signal));
         }

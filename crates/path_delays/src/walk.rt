@@ -1,5 +1,5 @@
 ghost use Rattle.std.specs.Prelude.{◌≡◌, ◌<◌, ◌≤◌, ◌+◌, ◌-◌, ℕ, false, None, All, IfOk, IsTrue, length, slice_index_or};
-ghost use Rattle.path_delays.specs.Vocabulary.{IsLevelsOf, has_number, HasReach, HaveReachBetween, IsRoomFor, sums_to, IsNetworkOf, HasReachRoom, HaveReachedUpTo, IsSpreadBelow};
+ghost use Rattle.path_delays.specs.Vocabulary.{IsLevelsOf, has_number, HasReach, HaveReachBetween, IsRoomFor, sums_to, IsNetworkOf, HasReachRoom, HaveReachedUpTo};
 
 use crate::lanes::{Block, LANES, Lane, block_end};
 use crate::launching::{launched, start_sums};
@@ -87,10 +87,12 @@ impl Walk {
         ensures reach { HaveReachBetween circuit.now tech.now pairs.now.items.now self.new }
         ensures room { IsRoomFor circuit.now tech.now self.new }
     {
-        let top = self.network.top_captured(circuit, pairs.items);
         let mut registers = [0; LANES];
+        let mut top = 0;
         for (lane, pair) in pairs.items.iter().enumerate() {
             registers[lane] = pair.0;
+            let captured = circuit.register_signal(pair.1 as usize).fan_in.as_slice();
+            top = self.network.top_of(top, captured);
         }
         let from = Launches {
             circuit,
@@ -133,8 +135,8 @@ impl Walk {
 }
 
 impl Reach {
-    // Reaches what registers reach up to a rank: each gate hands on its sums when no lower rank
-    // waits.
+    // Reaches what registers reach up to a rank: what each launches hands on its sums, and then each
+    // gate when no lower rank waits.
     fn reach_up_to(&mut self, network: &Network, from: &Launches<'_>, top: u32)
         requires network { IsNetworkOf from.now.circuit.now from.now.tech.now network.now }
         requires room { HasReachRoom network.now self.old }
@@ -143,8 +145,13 @@ impl Reach {
         ensures room { HasReachRoom network.now self.new }
     {
         self.clear();
+        let sums = start_sums(from.tech);
         for lane in 0..from.registers.len() {
-            self.launch(network, from, lane);
+            let register = from.registers[lane] as usize;
+            for signal in launched(from.circuit, network.inputs.as_slice(), register) {
+                self.mark(Lane { number: lane }, *signal, sums);
+                self.hand_on(network, *signal);
+            }
         }
         let mut rank = 1;
         while let Some(next) = self.waiting.take_lowest(rank) {
@@ -153,25 +160,6 @@ impl Reach {
             }
             self.hand_on(network, network.order[next as usize - 1]);
             rank = next + 1;
-        }
-    }
-
-    // Reaches in a lane each signal that its register launches, and hands the sums on.
-    fn launch(&mut self, network: &Network, from: &Launches<'_>, lane: usize)
-        requires network { IsNetworkOf from.now.circuit.now from.now.tech.now network.now }
-        requires room { HasReachRoom network.now self.old }
-        requires lane { lane < length from.now.registers.now }
-        requires spread { IsSpreadBelow from.now.circuit.now from.now.tech.now network.now
-            from.now.registers.now lane 1 self.old }
-        ensures spread { IsSpreadBelow from.now.circuit.now from.now.tech.now network.now
-            from.now.registers.now (lane + 1) 1 self.new }
-        ensures room { HasReachRoom network.now self.new }
-    {
-        let sums = start_sums(from.tech);
-        let register = from.registers[lane] as usize;
-        for signal in launched(from.circuit, network.inputs.as_slice(), register) {
-            self.mark(Lane { number: lane }, *signal, sums);
-            self.hand_on(network, *signal);
         }
     }
 }
