@@ -1,5 +1,5 @@
 -- Sums handed to one gate after the other.
-use Rattle.path_delays.proofs.Vocabulary.{◌≡◌, ◌≢◌, ◌<◌, ℕ, true, false, length, Some, List, [], ◌∷◌, ◌++◌, Bool, not, refl, sym, ap, subst, arith, eq-eqb, ne_eqb, get_or, get_or_from_slice_get, same_Some, slice_get-get_or, unwrap_or, Lanes, Network, Reach, NumberSet, Sums, no_sums, sums_through, has_number, IsInserted, AllBounded, lane_of, CanHand, GetsSums, IsJoined, IsMerged, IsPassed, row_at, rows_of, sums_before, table_limit, limit_of, delay_at, lane_at, lanes_at, rank_at, CanHandOn, HasReachRoom, IsSameRoom, IsHanded, IsMarked, AreHanded}
+use Rattle.path_delays.proofs.Vocabulary.{◌≡◌, ◌≢◌, ◌<◌, ℕ, true, false, length, Some, List, [], ◌∷◌, ◌++◌, Bool, not, refl, sym, ap, subst, arith, eq-eqb, ne_eqb, get_or, get_or_from_slice_get, slice_get-get_or, unwrap_or, Lanes, Network, Reach, NumberSet, Sums, no_sums, sums_through, has_number, IsInserted, AllBounded, lane_of, CanHand, GetsSums, IsJoined, IsMerged, IsPassed, row_at, rows_of, sums_before, table_limit, limit_of, delay_at, lane_at, lanes_at, rank_at, CanHandOn, HasReachRoom, IsSameRoom, IsHanded, IsMarked, AreHanded}
 use Rattle.path_delays.specs.declared.lane_table.LaneTable.{LaneTable}
 use Rattle.path_delays.proofs.LaneLemmas.{some_is}
 

@@ -1,5 +1,5 @@
 -- What a register launches: a signal that is no gate.
-use Rattle.path_delays.proofs.Vocabulary.{◌≡◌, ◌↔◌, ◌<◌, ◌+◌, ℕ, Bool, true, false, cond, IsTrue, List, [], ◌∷◌, ◌++◌, length, take, drop, get_or, Contains, MatchBool, IsSomeAnd, Option, Some, None, inl, inr, refl, sym, ◌∙◌, ap, subst, arith, append-nil, slice_get, cases_lt, true≢false, get_or-drop, get_or-take, length-drop, length-take, Contains-append_left, Contains-push, Contains-push_cases, slice_get_within, slice_get-get_or, get_or_from_slice_get, Kind, Input, Dff, Host, Signal, Circuit, is_gate, is_host, is_input, is_register, IsInput, Launches, register_signal, some_and, AreLaunchedBy, AreInputs, AreInputsBelow, AreRanks}
+use Rattle.path_delays.proofs.Vocabulary.{◌≡◌, ◌↔◌, ◌<◌, ◌+◌, ℕ, Bool, true, false, cond, IsTrue, List, [], ◌∷◌, ◌++◌, length, take, drop, get_or, All, Contains, MatchBool, IsSomeAnd, Option, Some, None, inl, inr, refl, sym, ◌∙◌, ap, subst, arith, append-nil, slice_get, cases_lt, true≢false, get_or-drop, get_or-take, length-drop, length-take, Contains-append_left, Contains-get_or, Contains-push, Contains-push_cases, slice_get_within, slice_get-get_or, get_or_from_slice_get, Kind, Input, Dff, Host, Signal, Circuit, is_gate, is_host, is_input, is_register, IsInput, Launches, register_signal, some_and, AreLaunchedBy, AreInputs, AreInputsBelow, AreRanks}
 use Rattle.cts_model.proofs.CircuitLemmas.{IsRegisterAt, registered}
 
 -- a primary input is no gate
@@ -51,6 +51,12 @@ launched_at circuit from number launches = at (register_signal circuit from) lau
 pub launched_within : (circuit : Circuit) (from number : ℕ) → Launches circuit from number
     → number < length circuit.signals
 launched_within circuit from number launches = grind (arith, launched_at, slice_get_within)
+
+-- and so is each of those that it launches
+pub all_within : (circuit : Circuit) (from : ℕ) (launched : List ℕ)
+    → AreLaunchedBy circuit from launched → All (λ signal. signal < length circuit.signals) launched
+all_within circuit from launched are k d inside = launched_within circuit from (get_or launched k d)
+    ((are (get_or launched k d)).0 (Contains-get_or launched k d inside))
 
 -- and its rank is 0
 pub launched_lowest : (circuit : Circuit) (from number : ℕ) (order ranks : List ℕ)

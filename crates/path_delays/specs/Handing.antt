@@ -1,6 +1,6 @@
 -- Sums of delays that a walk holds, and how they are handed from a signal to the gates that read
 -- it.
-use Rattle.std.specs.Prelude.{◌≡◌, ◌≢◌, ◌<◌, ◌≤◌, ◌+◌, ◌*◌, ◌^◌, ◌==◌, ◌&&◌, ◌||◌, ℕ, Bool, true, false, pos, nat_abs, List, [], ◌∷◌, length, take, All, Option, Some, None, IsSome, is_none, if◌then◌else◌, slice_get, slice_index, slice_index_or}
+use Rattle.std.specs.Prelude.{◌≡◌, ◌≢◌, ◌<◌, ◌≤◌, ◌+◌, ◌*◌, ◌^◌, ◌==◌, ◌&&◌, ◌||◌, ℕ, Bool, false, pos, nat_abs, List, [], ◌∷◌, length, take, All, Option, Some, None, IsSome, is_none, if◌then◌else◌, slice_get, slice_index, slice_index_or}
 use Rattle.std.specs.Int.{int_max}
 use Rattle.std.specs.List.{sum_by}
 use Rattle.std.specs.Option.{option_and_then, option_map, unwrap_or}

@@ -55,7 +55,7 @@ impl LaneTable {
         }
     }
 
-    /// Joins sums in a lane of a signal, in whose lanes no others are left where these are its first.
+    /// Joins sums in a lane of a signal. Where they are its first, its lanes hold no others.
     pub(crate) fn join(&mut self, signal: usize, lane: Lane, sums: Sums, first: bool)
         requires signal { signal < length (rows_of self.old) }
         requires sums { AreWithin (table_limit self.old) sums }

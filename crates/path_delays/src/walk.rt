@@ -135,8 +135,8 @@ impl Walk {
 }
 
 impl Reach {
-    // Reaches what registers reach up to a rank: what each launches hands on its sums, and then each
-    // gate when no lower rank waits.
+    // Reaches what registers reach up to a rank: what each launches hands on its sums, and then
+    // each gate when no lower rank waits.
     fn reach_up_to(&mut self, network: &Network, from: &Launches<'_>, top: u32)
         requires network { IsNetworkOf from.now.circuit.now from.now.tech.now network.now }
         requires room { HasReachRoom network.now self.old }

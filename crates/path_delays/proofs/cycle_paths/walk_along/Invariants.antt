@@ -6,7 +6,8 @@ abbrev pub invariant-loop-lane : goal.invariant-loop-lane
 invariant-loop-lane l = record {
   lanes : length l.pairs ≡ 16;
   each : (lane : ℕ) (constraint : Constraint) → lane < l.lane
-      → slice_get l.block.items.now lane ≡ Some constraint → get_or l.pairs lane (0, 0) ≡ pair_of constraint;
+      → slice_get l.block.items.now lane ≡ Some constraint
+      → get_or l.pairs lane (0, 0) ≡ pair_of constraint;
   within : (lane : ℕ) → lane < l.lane
       → ((get_or l.pairs lane (0, 0)).0 < length l.circuit.registers)
       × ((get_or l.pairs lane (0, 0)).1 < length l.circuit.registers);

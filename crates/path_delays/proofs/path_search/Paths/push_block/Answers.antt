@@ -8,7 +8,8 @@ list_captures-requires c =
     let from = c.args.first in
     rw c.as_slice-registers.ensures.value (gathered_from c.self.inside.circuit.now
     c.self.inside.tech.now from (from - from) c.walk_block-end.new.self c.args.capturing.now
-    c.gather.new.self (c.walk_block-end.ensures.reach from (omega arith) c.walk_block-end.ensures.after)
+    c.gather.new.self
+    (c.walk_block-end.ensures.reach from (omega arith) c.walk_block-end.ensures.after)
     (rw (← c.self.view_is) at c.requires.capturing)
     c.in_ok-gather.ensures).within
 

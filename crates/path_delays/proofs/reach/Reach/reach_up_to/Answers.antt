@@ -1,8 +1,8 @@
 -- What the registers launch hands on its sums, and then the gate of the lowest rank that waits.
-use Rattle.path_delays.proofs.Vocabulary.{◌≡◌, ◌+◌, ◌∙◌, ◌<◌, ℕ, length, take, get_or, refl, sym, subst, arith, rules, true≢false, Contains-get_or, slice_get-get_or, slice_get_within, Reach, lanes_at, rank_at, AllBelow, BegunIn, IsSpread, LanesBelow}
+use Rattle.path_delays.proofs.Vocabulary.{◌≡◌, ◌+◌, ◌∙◌, ℕ, length, take, get_or, refl, sym, subst, arith, rules, true≢false, slice_get-get_or, slice_get_within, Reach, lanes_at, rank_at, AllBelow, BegunIn, IsSpread, LanesBelow}
 use Rattle.path_delays.proofs.Hands.{HasReachRoom-same}
 use Rattle.path_delays.proofs.LaneLemmas.{some_is}
-use Rattle.path_delays.proofs.LaunchLemmas.{launched_within}
+use Rattle.path_delays.proofs.LaunchLemmas.{all_within}
 use Rattle.path_delays.proofs.WalkEnds.{reach_shown}
 use Rattle.path_delays.proofs.WalkStarts.{IsSpread-none, begun_all, begun_next, begun_none, marked_bounded, start_bounded}
 use Rattle.path_delays.proofs.WalkSteps.{all_bounded, next_gate, next_within, IsSpread-taken, IsSpread-on}
@@ -25,73 +25,73 @@ loop-signal-init c = search (arith, begun_none, slice_get-get_or)
 
 pub mark-requires-clause-room : goal.mark-requires-clause-room
 mark-requires-clause-room c =
-    let launched = c.launched-signal-items.result.now in
-    let place = c.loop-signal.signal-index in
-    let signal = get_or launched place 0 in
     let room = c.loop-signal.invariant.room in
-    let inside : signal < length c.args.network.now.ranks.items = omega (
-      arith,
-      launched_within c.args.from.now.circuit.now _ signal
-          ((c.launched-signal-items.ensures signal).0
-          (Contains-get_or launched place 0 c.loop-signal-test.true)),
-      c.requires.network.ranks.covers,
-    ) in
-    record { row = omega (arith, inside, room.lanes); bit = omega (arith, inside, room.reached) }
+    let inside = all_within c.args.from.now.circuit.now _ c.launched-signal-items.result.now
+    c.launched-signal-items.ensures c.loop-signal.signal-index 0 c.loop-signal-test.true in
+    record {
+      row = omega (arith, inside, c.requires.network.ranks.covers, room.lanes);
+      bit = omega (arith, inside, c.requires.network.ranks.covers, room.reached);
+    }
 
 pub mark-requires-clause-sums : goal.mark-requires-clause-sums
 mark-requires-clause-sums c = grind (arith, start_bounded)
 
 pub hand_on-requires : goal.hand_on-requires
 hand_on-requires c =
-    let launched = c.launched-signal-items.result.now in
-    let place = c.loop-signal.signal-index in
-    let signal = get_or launched place 0 in
     let network = c.args.network.now in
     let old = c.loop-signal.self in
+    let launched = c.launched-signal-items.result.now in
+    let place = c.loop-signal.signal-index in
     let room = c.loop-signal.invariant.room in
     record {
       room = HasReachRoom-same network old c.mark.new.self c.mark.ensures.room room;
       inside = omega (
         arith,
-        launched_within c.args.from.now.circuit.now _ signal
-            ((c.launched-signal-items.ensures signal).0
-            (Contains-get_or launched place 0 c.loop-signal-test.true)),
+        all_within c.args.from.now.circuit.now _ launched c.launched-signal-items.ensures place 0
+            c.loop-signal-test.true,
         c.requires.network.ranks.covers,
       );
       reached = search rules;
-      small = marked_bounded old c.mark.new.self c.loop-lane.lane signal c.start_sums-sums.result
+      small = marked_bounded old c.mark.new.self c.loop-lane.lane
+          (get_or launched place 0) c.start_sums-sums.result
           (rw c.start_sums-sums.ensures.sums
           (start_bounded network old c.args.from.now.tech.now room)) c.mark.ensures
           (λ given here. grind (arith, all_bounded));
     }
 
 pub loop-signal-preserved : goal.loop-signal-preserved
-loop-signal-preserved c = record {
-  spread = begun_next c.args.from.now.circuit.now c.args.from.now.tech.now c.args.network.now
-      c.requires.network c.args.from.now.registers.now c.loop-lane.lane _
-      (slice_get-get_or c.args.from.now.registers.now c.loop-lane.lane 0 c.loop-lane-test.true)
-      c.launched-signal-items.result.now
-      c.launched-signal-items.ensures c.loop-signal.self c.hand_on.new.self
-      c.loop-signal.signal-index (omega (arith, c.args.from.now.few, c.loop-lane-test.true))
-      c.loop-signal-test.true
-      (c.mark.new.self, rw c.start_sums-sums.ensures.sums at c.mark.ensures, c.hand_on.ensures.on)
-      c.loop-signal.invariant.spread;
-  room = c.hand_on.ensures.room;
-}
+loop-signal-preserved c =
+    let registers = c.args.from.now.registers.now in
+    let lane = c.loop-lane.lane in
+    record {
+      spread = begun_next c.args.from.now.circuit.now c.args.from.now.tech.now c.args.network.now
+          c.requires.network registers lane _
+          (slice_get-get_or registers lane 0 c.loop-lane-test.true)
+          c.launched-signal-items.result.now c.launched-signal-items.ensures
+          c.loop-signal.self c.hand_on.new.self c.loop-signal.signal-index
+          (omega (arith, c.args.from.now.few, c.loop-lane-test.true)) c.loop-signal-test.true (
+            c.mark.new.self,
+            rw c.start_sums-sums.ensures.sums at c.mark.ensures,
+            c.hand_on.ensures.on,
+          ) c.loop-signal.invariant.spread;
+      room = c.hand_on.ensures.room;
+    }
 
 pub loop-lane-preserved : goal.loop-lane-preserved
 loop-lane-preserved c =
+    let circuit = c.args.from.now.circuit.now in
+    let tech = c.args.from.now.tech.now in
+    let network = c.args.network.now in
+    let registers = c.args.from.now.registers.now in
+    let lane = c.loop-lane.lane in
     let launched = c.launched-signal-items.result.now in
     let all : c.loop-signal.signal-index ≡ length launched = omega arith in
     record {
-      spread = begun_all c.args.from.now.circuit.now c.args.from.now.tech.now c.args.network.now
-          c.requires.network c.args.from.now.registers.now c.loop-lane.lane _
-          (slice_get-get_or c.args.from.now.registers.now c.loop-lane.lane 0 c.loop-lane-test.true) launched
+      spread = begun_all circuit tech network c.requires.network registers lane _
+          (slice_get-get_or registers lane 0 c.loop-lane-test.true) launched
           c.launched-signal-items.ensures c.loop-signal.self
-          (subst (λ n. IsSpread c.args.from.now.circuit.now c.args.from.now.tech.now
-          c.args.network.now c.args.from.now.registers.now (BegunIn c.loop-lane.lane (take n launched))
-          (AllBelow c.args.network.now 1) 1 c.loop-signal.self) all
-          c.loop-signal.invariant.spread);
+          (subst (λ n. IsSpread circuit tech network registers (BegunIn lane (take n launched))
+          (AllBelow network 1) 1 c.loop-signal.self) all c.loop-signal.invariant.spread);
       room = c.loop-signal.invariant.room;
     }
 

@@ -1,6 +1,6 @@
 -- One signal more, and all of them.
-use Rattle.path_delays.proofs.Vocabulary.{◌≡◌, length, take, get_or, subst, arith, Contains-get_or, AreSwept, BegunTo, NoneHanded}
-use Rattle.path_delays.proofs.LaunchLemmas.{launched_within}
+use Rattle.path_delays.proofs.Vocabulary.{◌≡◌, length, take, subst, arith, AreSwept, BegunTo, NoneHanded}
+use Rattle.path_delays.proofs.LaunchLemmas.{all_within}
 use Rattle.path_delays.proofs.SweepLemmas.{begun_all, begun_next, begun_none}
 use Rattle.path_delays.proofs.sweep.Sweep.launch.Goals as goal
 
@@ -8,31 +8,24 @@ pub loop-signal-init : goal.loop-signal-init
 loop-signal-init c = grind (arith, begun_none)
 
 pub put-requires : goal.put-requires
-put-requires c =
-    let launched = c.launched-signal-items.result.now in
-    let place = c.loop-signal.signal-index in
-    let signal = get_or launched place 0 in
-    omega (
-      arith,
-      launched_within c.args.self.now.circuit.now c.args.from signal
-          ((c.launched-signal-items.ensures signal).0
-          (Contains-get_or launched place 0 c.loop-signal-test.true)),
-      c.loop-signal.invariant.covers,
-    )
+put-requires c = omega (
+  arith,
+  all_within c.args.self.now.circuit.now c.args.from c.launched-signal-items.result.now
+      c.launched-signal-items.ensures c.loop-signal.signal-index 0 c.loop-signal-test.true,
+  c.loop-signal.invariant.covers,
+)
 
 pub loop-signal-preserved : goal.loop-signal-preserved
 loop-signal-preserved c =
     let launched = c.launched-signal-items.result.now in
     let place = c.loop-signal.signal-index in
-    let signal = get_or launched place 0 in
     begun_next c.args.self.now.circuit.now c.args.self.now.tech.now c.args.self.now.schedule.now
     c.args.from launched c.launched-signal-items.ensures place c.loop-signal.windows.items
     c.put.new.windows.items c.requires.from c.loop-signal-test.true
     (omega (
       arith,
-      launched_within c.args.self.now.circuit.now c.args.from signal
-          ((c.launched-signal-items.ensures signal).0
-          (Contains-get_or launched place 0 c.loop-signal-test.true)),
+      all_within c.args.self.now.circuit.now c.args.from launched c.launched-signal-items.ensures
+          place 0 c.loop-signal-test.true,
       c.loop-signal.invariant.covers,
     ))
     (rw c.started-window.ensures.started at c.started-window.ensures.small)
