@@ -1,5 +1,5 @@
 -- Times and windows in memory, and those that are put at signals and registers.
-use Rattle.path_delays.proofs.Vocabulary.{◌≡◌, ◌+◌, ◌*◌, ◌≤◌, ◌^◌, ℕ, ℤ, pos, ◌+ℤ◌, ◌*ℤ◌, true, false, cond, IsTrue, ◌⊎◌, List, [], ◌∷◌, ◌++◌, length, Option, Some, None, inl, inr, refl, sym, ◌∙◌, ap, subst, arith, w64, w128, slice_get, option_map, mul-add, cases_lt, ints, to_z-of_z, length_push, get_or_push, get_or_append_left, same_Some, slice_get_within, slice_get-get_or, get_or_from_slice_get, Signal, Circuit, is_gate, is_host, is_valid, Kind, Host, Tech, gate_inputs, Captures, IsWithin, Window, Sums, AreExtremesIfAny, StandsAt, IsWindowBelow, gate_sums, AreWithin, either_sums, merged_windows, either_window, window_at, AreBelow, AreCaptures, sums_in, sums_of}
+use Rattle.path_delays.proofs.Vocabulary.{◌≡◌, ◌+◌, ◌*◌, ◌≤◌, ◌^◌, ℕ, ℤ, pos, ◌+ℤ◌, ◌*ℤ◌, true, false, cond, IsTrue, ◌⊎◌, List, [], ◌∷◌, ◌++◌, length, Option, Some, None, inl, inr, refl, sym, ◌∙◌, ap, subst, arith, w64, w128, slice_get, option_map, mul-add, cases_lt, common_steps, ints, to_z-of_z, length_push, get_or_push, get_or_append_left, same_Some, slice_get_within, slice_get-get_or, get_or_from_slice_get, Signal, Circuit, is_gate, is_host, is_valid, Kind, Host, Tech, gate_inputs, Captures, IsWithin, Window, Sums, AreExtremesIfAny, StandsAt, IsWindowBelow, gate_sums, AreWithin, either_sums, merged_windows, either_window, window_at, AreBelow, AreCaptures, sums_in, sums_of}
 use Rattle.cts_model.specs.Vocabulary.{IsBelow}
 use Rattle.path_delays.proofs.CaptureLemmas.{few_inputs}
 use Rattle.path_delays.proofs.DelayLemmas.{gate_within, weight_of}
@@ -35,6 +35,27 @@ kept_ticks ticks within few = to_z-of_z w128 ticks
 -- and a delay
 pub kept_delay : (delay : ℤ) → IsWithin 0 2024000 delay → to_z w64 (of_z w64 delay) ≡ delay
 kept_delay delay within = to_z-of_z w64 delay (omega (arith, ints, within.above, within.below))
+
+-- it has few ticks over a small scale
+pub ticks_within : (den delay : ℤ) → IsWithin 1 4097 den → IsWithin 0 2024000 delay
+    → IsWithin 0 8292328000 (den *ℤ delay)
+ticks_within den delay scale small = grind (arith, common_steps)
+
+-- the time that many ticks later
+pub kept_later : (den time delay other : ℤ) → IsWithin 1 4097 den → IsBelow (2 * 10 ^ 19) time
+    → IsWithin 0 2024000 delay → other ≡ delay
+    → kept (kept time +ℤ kept (kept den *ℤ kept other)) ≡ time +ℤ (den *ℤ delay)
+kept_later den time delay other scale below small is =
+    let ticks = ticks_within den delay scale small in
+    rw (
+      kept_time time below (omega arith),
+      kept_ticks den scale (omega arith),
+      is,
+      kept_ticks delay small (omega arith),
+      kept_ticks (den *ℤ delay) ticks (omega arith),
+    )
+    (to_z-of_z w128 (time +ℤ (den *ℤ delay))
+    (omega (arith, ints, below.above, below.below, ticks.above, ticks.below)))
 
 -- an edge is a window of one time
 pub edge_below : (bound : ℕ) (time : ℤ) → bound ≤ 10 ^ 20 → IsBelow bound time

@@ -29,8 +29,8 @@ impl Window {
             → IsWindowBelow (bound + 10 ^ 10) result }
     {
         Window {
-            earliest: later(self.earliest, scale.scaled(delay.least)),
-            latest: later(self.latest, scale.scaled(delay.greatest)),
+            earliest: scale.later(self.earliest, delay.least),
+            latest: scale.later(self.latest, delay.greatest),
         }
     }
 
@@ -56,23 +56,14 @@ impl Window {
     }
 }
 
-// A time, and ticks after it.
-fn later(time: i128, ticks: i128) -> i128
-    requires time { IsBelow (2 * 10 ^ 19) time }
-    requires ticks { IsWithin 0 8292328000 ticks }
-    ensures later { result ≡ (time +ℤ ticks) }
-    ensures small { IsBelow (3 * 10 ^ 19) result }
-{
-    time + ticks
-}
-
 impl Scale {
-    // A delay in ticks over the scale.
-    fn scaled(self, delay: i64) -> i128
-        requires { IsWithin 0 2024000 delay }
-        ensures scaled { result ≡ (pos (nat_abs self.den) *ℤ delay) }
-        ensures small { IsWithin 0 8292328000 result }
+    // A time, and a delay in ticks after it.
+    fn later(self, time: i128, delay: i64) -> i128
+        requires time { IsBelow (2 * 10 ^ 19) time }
+        requires delay { IsWithin 0 2024000 delay }
+        ensures later { result ≡ (time +ℤ (pos (nat_abs self.den) *ℤ delay)) }
+        ensures small { (bound : ℕ) → IsBelow bound time → IsBelow (bound + 10 ^ 10) result }
     {
-        self.den * i128::from(delay)
+        time + self.den * i128::from(delay)
     }
 }
