@@ -1,18 +1,22 @@
 -- The registers of one signal more; where no signal waits, they become the list.
-use Rattle.path_delays.proofs.Vocabulary.{refl, arith, Capturing, common_steps}
+use Rattle.path_delays.proofs.Vocabulary.{refl, arith, Capturing, NumberSet, common_steps}
 use Rattle.path_delays.proofs.CapturingLemmas.{HasCaptureRoom-same, gathered_all, gathering_next, gathering_room}
 use Rattle.path_delays.proofs.capturing.Capturing.gather.Goals as goal
 
+-- where the walk through the signals begins
+abbrev begun_with : Capturing → (reached found : NumberSet) → Capturing
+begun_with capturing reached found = record {
+  capturers = capturing.capturers;
+  captured = capturing.captured;
+  reached = reached;
+  found = found;
+  registers = capturing.registers;
+  captures = capturing.captures;
+}
+
 pub insert_all-requires : goal.insert_all-requires
 insert_all-requires c =
-    let begun : Capturing = record {
-      capturers = c.args.self.now.capturers;
-      captured = c.args.self.now.captured;
-      reached = c.become_common.new.self;
-      found = c.clear.new.self;
-      registers = c.args.self.now.registers;
-      captures = c.args.self.now.captures;
-    } in
+    let begun = begun_with c.args.self.now c.become_common.new.self c.clear.new.self in
     let room = HasCaptureRoom-same c.args.self.now begun
     (record {
       capturers = refl;
@@ -25,14 +29,7 @@ insert_all-requires c =
 
 pub loop-signal-preserved : goal.loop-signal-preserved
 loop-signal-preserved c =
-    let begun : Capturing = record {
-      capturers = c.args.self.now.capturers;
-      captured = c.args.self.now.captured;
-      reached = c.become_common.new.self;
-      found = c.clear.new.self;
-      registers = c.args.self.now.registers;
-      captures = c.args.self.now.captures;
-    } in
+    let begun = begun_with c.args.self.now c.become_common.new.self c.clear.new.self in
     let later : Capturing = record {
       capturers = c.loop-signal.self.capturers;
       captured = c.loop-signal.self.captured;
@@ -52,14 +49,7 @@ loop-signal-preserved c =
 
 pub returns : goal.returns
 returns c =
-    let begun : Capturing = record {
-      capturers = c.args.self.now.capturers;
-      captured = c.args.self.now.captured;
-      reached = c.become_common.new.self;
-      found = c.clear.new.self;
-      registers = c.args.self.now.registers;
-      captures = c.args.self.now.captures;
-    } in
+    let begun = begun_with c.args.self.now c.become_common.new.self c.clear.new.self in
     let last : Capturing = record {
       capturers = c.loop-signal.self.capturers;
       captured = c.loop-signal.self.captured;

@@ -11,35 +11,26 @@ loop-gate-init c = grind (arith, passed_none)
 pub bounds-as_slice-gate : goal.bounds-as_slice-gate
 bounds-as_slice-gate c = grind (arith, next_within)
 
-pub gate_window-window-requires-clause-gate : goal.gate_window-window-requires-clause-gate
-gate_window-window-requires-clause-gate c =
-    (next_read c.args.self.now.circuit.now c.args.levels.now c.gates-gate-items.result.now
-    c.as_slice.result.now c.loop-gate.gate-index c.index-as_slice-gate.result c.requires.levels
+pub gate_window-window-requires : goal.gate_window-window-requires
+gate_window-window-requires c =
+    let circuit = c.args.self.now.circuit.now in
+    let levels = c.args.levels.now in
+    let read = next_read circuit levels c.gates-gate-items.result.now c.as_slice.result.now
+    c.loop-gate.gate-index c.index-as_slice-gate.result c.requires.levels
     c.gates-gate-items.ensures c.as_slice.ensures c.loop-gate-test.true
-    c.index-as_slice-gate.is).is_one
-
-pub gate_window-window-requires-clause-valid_inputs :
-    goal.gate_window-window-requires-clause-valid_inputs
-gate_window-window-requires-clause-valid_inputs c =
-    (next_read c.args.self.now.circuit.now c.args.levels.now c.gates-gate-items.result.now
-    c.as_slice.result.now c.loop-gate.gate-index c.index-as_slice-gate.result c.requires.levels
-    c.gates-gate-items.ensures c.as_slice.ensures c.loop-gate-test.true
-    c.index-as_slice-gate.is).valid_inputs
-
-pub gate_window-window-requires-clause-reads : goal.gate_window-window-requires-clause-reads
-gate_window-window-requires-clause-reads c k d within =
-    let read = next_read c.args.self.now.circuit.now c.args.levels.now c.gates-gate-items.result.now
-    c.as_slice.result.now c.loop-gate.gate-index c.index-as_slice-gate.result c.requires.levels
-    c.gates-gate-items.ensures c.as_slice.ensures c.loop-gate-test.true c.index-as_slice-gate.is in
-    rw c.as_slice-in-loop-gate.ensures.value
-    (omega (arith, read.reads k d within, c.loop-gate.invariant.covers))
-
-pub gate_window-window-requires-clause-small : goal.gate_window-window-requires-clause-small
-gate_window-window-requires-clause-small c signal window here =
-    let low = rw c.gates-gate-items.ensures at c.loop-gate-test.true in
-    below_wider (window_limit c.loop-gate.gate-index) (2 * 10 ^ 19) window
-    (omega (arith, low, few_gates c.args.self.now.circuit.now c.args.levels.now c.requires.levels))
-    (c.loop-gate.invariant.small signal window (rw c.as_slice-in-loop-gate.ensures.value at here))
+    c.index-as_slice-gate.is in
+    record {
+      gate = read.is_one;
+      valid_inputs = read.valid_inputs;
+      reads = λ k d within. rw c.as_slice-in-loop-gate.ensures.value
+          (omega (arith, read.reads k d within, c.loop-gate.invariant.covers));
+      small = λ signal window here.
+          let low = rw c.gates-gate-items.ensures at c.loop-gate-test.true in
+          below_wider (window_limit c.loop-gate.gate-index) (2 * 10 ^ 19) window
+          (omega (arith, low, few_gates circuit levels c.requires.levels))
+          (c.loop-gate.invariant.small signal window
+          (rw c.as_slice-in-loop-gate.ensures.value at here));
+    }
 
 pub put-requires : goal.put-requires
 put-requires c = grind (arith, next_within)
