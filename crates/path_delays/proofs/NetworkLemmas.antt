@@ -1,5 +1,5 @@
 -- The readers of each signal, and the place of each gate in the order.
-use Rattle.path_delays.proofs.Vocabulary.{◌≡◌, ◌≢◌, ◌+◌, ◌-◌, ◌<◌, ◌≤◌, ◌==◌, ℕ, zero, suc, Bool, true, false, cond, IsTrue, List, [], ◌∷◌, ◌++◌, length, map, filter, replicate, get_or, set, sum, All, AllPairs, Contains, Option, Some, None, IsSomeAnd, inl, inr, refl, sym, ◌∙◌, ap, subst, arith, slice_get, sum_by, cases_eq, cases_lt, eqb-true, eq-eqb, length-append, length-map, length-set, length-take, get_or-map, get_or-take, get_or-set_same, get_or-set_other, get_or_default, length-replicate, get_or-replicate, get_or_past, sum_by_more, sum_by-cons, sum_by-set, All-nil, All-map, All-filter, All-append, All-contains, All-contains_itself, filter_passes, Contains-append_left, Contains-append_right, get_or_from_slice_get, slice_get_within, slice_get-get_or, Signal, Circuit, is_gate, gate_inputs, IsGate, Reads, Groups, group_of, HasGroups, IsTopologicalOrder, Contains-cons, IsGate-from_Reads, gate_within, AreAllReads, all_reads_by, AreReaders, HasPlaceInOrder, ArePlaces, AreRanks}
+use Rattle.path_delays.proofs.Vocabulary.{◌≡◌, ◌≢◌, ◌+◌, ◌-◌, ◌<◌, ◌≤◌, ◌==◌, ℕ, zero, suc, Bool, true, false, cond, IsTrue, List, [], ◌∷◌, ◌++◌, length, map, filter, replicate, get_or, set, sum, All, AllPairs, Contains, Option, Some, None, IsSomeAnd, inl, inr, refl, sym, ◌∙◌, ap, subst, arith, slice_get, sum_by, cases_eq, cases_lt, eqb-true, eq-eqb, length-append, length-map, length-set, length-take, get_or-map, get_or-take, get_or-set_same, get_or-set_other, get_or_default, length-replicate, get_or-replicate, get_or_past, sum_by_more, sum_by-cons, sum_by-set, All-nil, All-map, All-filter, All-append, All-contains, All-contains_itself, filter_passes, Contains-append_left, Contains-append_right, get_or_from_slice_get, slice_get_within, slice_get-get_or, Signal, Circuit, is_gate, gate_inputs, IsGate, Reads, Groups, group_of, HasGroups, IsTopologicalOrder, Contains-cons, IsGate-from_Reads, gate_within, AreAllReads, all_reads_by, AreReaders, slice_index, HasPlaceInOrder, AreRanks}
 use Rattle.std.proofs.lemmas.List.Folds.{sum_by-replicate}
 use Rattle.gate_order.specs.Grouped.{values_at}
 
@@ -124,6 +124,14 @@ AreReaders-grouped signals pairs groups within reads grouped = record {
       (Contains-values_at pairs read gate
       (reads.all gate read (reader_within signals gate read reading) reading));
 }
+
+-- for each number below a limit its place in a list's first items, counted from 1, or 0
+pub record ArePlaces (limit : ℕ) (order : List ℕ) (passed : ℕ) (places : List ℕ) : Type 0 where
+  pub covers : length places ≡ limit
+  pub each : (place : ℕ) → place < passed
+      → slice_index places (slice_index order place) ≡ place + 1
+  pub placed : (number : ℕ) → 0 < slice_index places number
+      → HasPlaceInOrder order number (slice_index places number)
 
 -- no number has a place in no items
 pub ArePlaces-none : (limit : ℕ) (order : List ℕ) → ArePlaces limit order 0 (replicate limit 0)

@@ -14,7 +14,7 @@ pub use Rattle.std.specs.Int.{int_min, int_max, bit_at, bit_not, trailing_zeros,
 pub use Rattle.std.specs.Int.Signed.{lt_z}
 pub use Rattle.std.specs.List.{slice_get, slice_range, sum_by, slice_index_or}
 pub use Rattle.std.specs.Option.{option_and_then, option_map, unwrap_or, option_map_or, option_to_list, IfSome}
-pub use Rattle.std.specs.Prelude.{if◌then◌else◌, IsSome, bit_and, bit_or, nat_abs}
+pub use Rattle.std.specs.Prelude.{if◌then◌else◌, slice_index, IsSome, bit_and, bit_or, nat_abs}
 pub use Rattle.cts_model.proofs.PathRegisters.{path_within}
 pub use Rattle.cts_model.proofs.TopologyLemmas.{some_and}
 pub use Rattle.cts_model.specs.declared.circuit.Circuit.{Circuit}
@@ -35,12 +35,12 @@ pub use Rattle.path_delays.specs.Capturings.{IsCapturer, HasCaptureRoom, IsSameC
 pub use Rattle.path_delays.specs.Carrying.{along, AreCarried, AreExtremesIfAny, AreShownBy, Comes, IsJoinedAt, StandsAt, AreExtremesOf, AreLaunchedBy, gate_sums_at, start_sums}
 pub use Rattle.path_delays.specs.CyclePaths.{FitsRoom, IsPathWithin, KeepsPaths, pair_of}
 pub use Rattle.path_delays.specs.ExtremePaths.{IsExtremeIfAny, delay_by, extreme_of, IsNoFurther, IsFurthest, IsExtremePath}
-pub use Rattle.path_delays.specs.Handing.{delay_at, lane_at, lanes_at, rank_at, CanHandOn, HasReachRoom, IsSameRoom, IsHanded, IsMarked, AreHanded, limit_at, most_at, limit_of, most_of, no_delay, sums_at, waits_at, IsCleared, IsStarted, IsHandedOn}
+pub use Rattle.path_delays.specs.Handing.{delay_at, lane_at, lanes_at, rank_at, CanHandOn, HasReachRoom, IsSameRoom, IsHanded, IsMarked, AreHanded, limit_at, most_at, limit_of, most_of, no_delay, sums_at, waits_at, IsCleared, IsHandedOn}
 pub use Rattle.path_delays.specs.JoinedPairs.{IsJoinedBy, AreDelaysBetween, ListsPairsBefore, MeetsLimit, ShowsTooMany, pair_limit, IsDelayBetween, ArePairs}
 pub use Rattle.path_delays.specs.LaneParts.{AllBounded, lane_of}
 pub use Rattle.path_delays.specs.LaneTables.{CanHand, GetsSums, IsJoined, IsMerged, IsPassed, lane_in, row_at, rows_of, sums_before, table_limit}
 pub use Rattle.path_delays.specs.NarrowParts.{ArePassable, greatest_in, least_in, narrow_limit, wide_greatest, wide_lanes, wide_least}
-pub use Rattle.path_delays.specs.Networks.{gate_sums, AreInputs, AreInputsBelow, AreRanks, IsNetworkOf, AreAllReads, all_reads_by, AreReaders, HasPlaceInOrder, ArePlaces, AreCapturedUpTo}
+pub use Rattle.path_delays.specs.Networks.{gate_sums, AreInputs, AreInputsBelow, AreRanks, IsNetworkOf, AreAllReads, all_reads_by, AreReaders, HasPlaceInOrder, AreCapturedUpTo}
 pub use Rattle.path_delays.specs.NumberSets.{has_number, AreInserted, AreListed, IsLowestTaken, IsInserted, IsCommon, IsFirstFilled}
 pub use Rattle.path_delays.specs.Reaches.{IsChain, IsReach, AreExtreme}
 pub use Rattle.path_delays.specs.SumParts.{AreAround, IsAround, either_sums, joined_sums, merged_sums, sums_through, AreWithin, no_sums, AreBounded, AreMissing, delay_limit, some_sums}

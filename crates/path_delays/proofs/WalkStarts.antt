@@ -1,6 +1,6 @@
 -- Where a walk starts: at nothing, at a signal that is marked in a lane, and at all that a register
 -- launches.
-use Rattle.path_delays.proofs.Vocabulary.{◌≡◌, ◌≢◌, ◌+◌, ◌<◌, ◌≤◌, ℕ, List, [], length, take, get_or, Contains, Option, Some, None, inl, inr, ◌⊎◌, refl, sym, ◌∙◌, ap, subst, arith, IsSome, option_and_then, option_map, unwrap_or, slice_get, cases_eq, cases_lt, take_all, Contains-get_or, same_Some, Circuit, Tech, Launches, Reads, Lanes, Sums, Network, Reach, AreCarried, AreLaunchedBy, AreShownBy, Comes, IsJoinedAt, gate_sums_at, start_sums, AllBounded, lane_of, AreAround, AreBounded, AreWithin, either_sums, merged_sums, no_sums, some_sums, IsNetworkOf, limit_at, limit_of, rank_at, lane_at, lanes_at, sums_at, HasReachRoom, IsCleared, IsMarked, IsStarted, AllBelow, AllBelowBut, BegunIn, IsSpread, IsSpreadBelow, StartsIn}
+use Rattle.path_delays.proofs.Vocabulary.{◌≡◌, ◌≢◌, ◌+◌, ◌<◌, ◌≤◌, ℕ, List, [], length, take, get_or, Contains, Option, Some, None, inl, inr, ◌⊎◌, refl, sym, ◌∙◌, ap, subst, arith, IsSome, option_and_then, option_map, unwrap_or, slice_get, cases_eq, cases_lt, take_all, Contains-get_or, same_Some, Circuit, Tech, Launches, Reads, Lanes, Sums, Network, Reach, AreCarried, AreLaunchedBy, AreShownBy, Comes, IsJoinedAt, gate_sums_at, start_sums, AllBounded, lane_of, AreAround, AreBounded, AreWithin, either_sums, merged_sums, no_sums, some_sums, IsNetworkOf, limit_at, limit_of, rank_at, lane_at, lanes_at, sums_at, HasReachRoom, IsCleared, IsHandedOn, IsMarked, AllBelow, AllBelowBut, BegunIn, IsSpread, IsSpreadBelow, StartsIn}
 use Rattle.path_delays.proofs.CarryLemmas.{IsHandedBy, carried_joined, carried_none, carried_same, listed_next, shown_start}
 use Rattle.path_delays.proofs.SumLemmas.{around_itself}
 use Rattle.path_delays.proofs.LaneLemmas.{bounded_joined, none_missing, some_is, some_mapped, some_merged, some_within}
@@ -8,6 +8,12 @@ use Rattle.path_delays.proofs.LaunchLemmas.{launched_lowest, launched_within}
 use Rattle.path_delays.proofs.NetworkDelays.{limit_within}
 use Rattle.path_delays.proofs.Rooms.{within_higher}
 use Rattle.path_delays.proofs.WalkSteps.{IsSpread-on}
+
+-- the signal gets sums in a lane and hands them on
+abbrev pub IsStarted : Network → (lane signal : ℕ) → Sums → Reach → Reach → Type 0
+IsStarted network lane signal sums old new =
+    (between : Reach) × IsMarked lane signal sums old between
+    × IsHandedOn network signal between new
 
 -- what stood there, or nothing, is bounded
 stood_bounded : (limit : ℕ) (known : Option Sums)

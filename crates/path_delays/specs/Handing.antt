@@ -126,12 +126,6 @@ abbrev pub IsHandedOn : Network → ℕ → Reach → Reach → Type 0
 IsHandedOn network signal old new = (given : Lanes) → lanes_at old signal ≡ Some given
     → AreHanded network given (group_of network.readers signal) old new
 
--- the signal gets sums in a lane and hands them on
-abbrev pub IsStarted : Network → (lane signal : ℕ) → Sums → Reach → Reach → Type 0
-IsStarted network lane signal sums old new =
-    (between : Reach) × IsMarked lane signal sums old between
-    × IsHandedOn network signal between new
-
 -- nothing is reached
 pub record IsCleared (reach : Reach) : Type 0 where
   pub none : (signal : ℕ) → lanes_at reach signal ≡ None

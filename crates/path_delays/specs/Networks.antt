@@ -34,14 +34,6 @@ pub record HasPlaceInOrder (order : List ℕ) (number place : ℕ) : Type 0 wher
   pub counted : 1 ≤ place
   pub here : slice_get order (place - 1) ≡ Some number
 
--- for each number below a limit its place in a list's first items, counted from 1, or 0
-pub record ArePlaces (limit : ℕ) (order : List ℕ) (passed : ℕ) (places : List ℕ) : Type 0 where
-  pub covers : length places ≡ limit
-  pub each : (place : ℕ) → place < passed
-      → slice_index places (slice_index order place) ≡ place + 1
-  pub placed : (number : ℕ) → 0 < slice_index places number
-      → HasPlaceInOrder order number (slice_index places number)
-
 -- a gate's rank is its place in the order, counted from 1: above the rank of all that it reads.
 -- What is no gate has the rank 0
 pub record AreRanks (signals : List Signal) (order ranks : List ℕ) : Type 0 where

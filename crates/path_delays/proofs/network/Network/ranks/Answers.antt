@@ -1,6 +1,6 @@
 -- One gate more, and all of them.
-use Rattle.path_delays.proofs.Vocabulary.{◌≡◌, length, replicate, get_or, refl, ap, subst, arith, rules, gate_within, ArePlaces}
-use Rattle.path_delays.proofs.NetworkLemmas.{ArePlaces-none, ArePlaces-more, AreRanks-placed, few_gates}
+use Rattle.path_delays.proofs.Vocabulary.{◌≡◌, length, replicate, get_or, refl, ap, subst, arith, rules, gate_within}
+use Rattle.path_delays.proofs.NetworkLemmas.{ArePlaces, ArePlaces-none, ArePlaces-more, AreRanks-placed, few_gates}
 use Rattle.path_delays.proofs.network.Network.ranks.Goals as goal
 
 pub loop-place-init : goal.loop-place-init

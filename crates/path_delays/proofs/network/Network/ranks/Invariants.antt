@@ -1,5 +1,6 @@
 -- The places of the gates passed so far.
-use Rattle.path_delays.proofs.Vocabulary.{◌≤◌, length, ArePlaces}
+use Rattle.path_delays.proofs.Vocabulary.{◌≤◌, length}
+use Rattle.path_delays.proofs.NetworkLemmas.{ArePlaces}
 use Rattle.path_delays.proofs.network.Network.ranks.Given as goal
 
 abbrev pub invariant-loop-place : goal.invariant-loop-place
