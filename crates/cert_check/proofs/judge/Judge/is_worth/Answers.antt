@@ -1,5 +1,5 @@
 -- One constraint more is added to both sums, and in the end they are compared as they are.
-use Rattle.cert_check.proofs.Vocabulary.{◌+ℤ◌, ◌-ℤ◌, ◌*ℤ◌, pos, false, get_or, to_z, of_z, ◌∙◌, arith, common_steps, w128, ints, to_z-of_z, Constraint}
+use Rattle.cert_check.proofs.Vocabulary.{◌+ℤ◌, pos, false, get_or, to_z, of_z, arith, common_steps, w128, ints, to_z-of_z, Constraint}
 use Rattle.cert_check.proofs.SumLemmas.{sums_all, sums_next}
 use Rattle.cert_check.proofs.judge.Judge.is_worth.Goals as goal
 
@@ -36,14 +36,9 @@ overflow_add-weight c =
 
 pub returns-then-count-ge1 : goal.returns-then-count-ge1
 returns-then-count-ge1 c =
-    let self = c.args.self.now in
-    let period = self.report.now.period in
-    let sums = sums_all self.cycle.now c.loop-constraint.constraint-index _ _
+    let sums = sums_all c.args.self.now.cycle.now c.loop-constraint.constraint-index _ _
     (omega (arith, c.loop-constraint-test.false)) c.loop-constraint.invariant in
-    let asked = to_z-of_z w128 c.asked.result (record { sfits = c.asked.type_inv })
-    ∙ c.asked.ensures
-    ∙ (λ i. (period.den *ℤ sums.0 i) -ℤ (period.num *ℤ sums.1 i)) in
-    search (arith, ints, sums, asked)
+    search (arith, ints, to_z-of_z, sums, c.asked.ensures)
 
 pub returns-else-count-ge1 : goal.returns-else-count-ge1
 returns-else-count-ge1 c = grind (arith, common_steps)
