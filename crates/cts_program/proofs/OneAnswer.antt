@@ -2,7 +2,7 @@
 -- both.
 use Rattle.cts_program.proofs.Vocabulary.{ℕ, ◌≡◌, ◌≢◌, ◌<◌, ◌≤◌, ◌⊎◌, inl, inr, List, [], ◌∷◌, length, take, refl, ap, sym, ◌∙◌, subst, append-nil, arith, length-map, Reason, Command, Check, Demo, Form, form_of, Given, Failure, status_of, reason_failure_of, kinds_for, texts_for, judged_kinds, Tells, IsUnshown, RefusesTold, IsText, IsAnswer, IsRefusal, IsAccepted, IsStatusOf, FindsNoPeriod, subject_of, RefusesFirst, NamedFile, Request, request_of, Told, nothing, reported}
 use Rattle.cert_check.specs.declared.verdict.Reason.TheVariants as reasons
-use Rattle.cert_check.proofs.JudgedLemmas.{verdict_shown}
+use Rattle.cert_check.proofs.JudgedLemmas.{exactly_shown}
 use Rattle.command_line.specs.declared.table.Form.TheVariants as forms
 use Rattle.failure_lines.specs.declared.file_kind.FileKind.TheVariants as kinds
 use Rattle.cts_program.proofs.DocumentLists.{Agree, agree_same, agree_rotated, agree_self, one_telling, told_fine, one_refusal, first_or_later}
@@ -107,7 +107,7 @@ module _ (laws : ReportLaws) (request : Request) where
   shown_or_not : (form : Form) (told : Told) (status : ℕ) (text : List ℕ) (failure : Failure)
       → IsText form request.given told status text → IsUnshown form told failure → ⊥
   shown_or_not forms.Check (reported problem report) status text failure (done, says)
-      (reason, is, verdict) = cc (verdict_shown problem report verdict says.shown)
+      (reason, is, verdict) = cc ((exactly_shown problem report verdict).1 says.shown)
   shown_or_not form told status text failure says unshown = absurd unshown
 
   -- what is answered isn't refused
