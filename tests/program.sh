@@ -201,11 +201,12 @@ scripts() {
 }
 expect 'help of each script' 0 '' '' scripts
 expect 'nothing was started' 0 '' '' cat "$work/started"
-# interrupted SIGNAL: a build that gets it when it has begun, its status, and the provers that are left then.
+# interrupted SIGNAL: a build that gets it when it has begun, its status, and the provers that are left then. Under nohup, too, it
+# begins with the signal not ignored.
 interrupted() {
     local build process
     : >"$work/started"
-    PATH=$work/fake:$PATH "$work/bare/cts" build 2>/dev/null &
+    PATH=$work/fake:$PATH env --default-signal="$1" "$work/bare/cts" build 2>/dev/null &
     build=$!
     while [ ! -s "$work/started" ]; do sleep 0.1; done
     kill -s "$1" "$build"
