@@ -34,7 +34,7 @@ impl<'a> LineFormat<'a> for Statements<'a> {
     ghost has_read = { λ _ statements. HasRead statements.definitions statements.said.items };
 
     fn read_line(&mut self, line: Line<'a>) -> Result<(), BenchFault> {
-        let Some(statement) = Statement::of(line.text) else {
+        let Some(statement) = Statement::of(line) else {
             return Err(BenchFault::BadLine(line.number));
         };
         self.definitions.add(&statement, line.number)?;

@@ -9,7 +9,7 @@ ghost use Rattle.bench_reader.specs.View.{said_by};
 use crate::input_list::InputList;
 use crate::tally::is_short;
 use crate::token::{Token, Tokens};
-use cts_base::before_comment;
+use cts_base::Line;
 
 /// What a line of a netlist says.
 #[derive(Drop)]
@@ -30,10 +30,10 @@ pub(crate) enum Statement<'a> {
 
 impl<'a> Statement<'a> {
     /// Reads a line. `None` says that it has no form of the format.
-    pub(crate) fn of(line: &'a [u8]) -> Option<Statement<'a>>
-        ensures { option_map said_by result ≡ statement_of line.now }
+    pub(crate) fn of(line: Line<'a>) -> Option<Statement<'a>>
+        ensures { option_map said_by result ≡ statement_of line.entry.text.now }
     {
-        let mut tokens = Tokens::of(before_comment(line));
+        let mut tokens = Tokens::of(line.content);
         let Some(first) = tokens.next() else {
             return Some(Statement::Blank);
         };

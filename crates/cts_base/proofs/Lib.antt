@@ -1,5 +1,6 @@
 mod Vocabulary
 mod Places
+mod Searches
 mod LineLemmas
 mod WordLemmas
 mod DecimalLemmas

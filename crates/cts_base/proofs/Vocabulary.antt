@@ -32,3 +32,4 @@ pub use Rattle.cts_base.specs.NumberTexts.{SpellsQuotient, kept_size, HaveSmallS
 pub use Rattle.cts_base.specs.declared.fraction.Fraction.{Fraction}
 pub use Rattle.cts_base.specs.declared.number.NumberFault.{NumberFault}
 pub use Rattle.cts_base.specs.declared.number.NumberFault.TheVariants.{NotNumber, TooFine, TooLarge}
+pub use Rattle.cts_base.specs.Words.{is_hash, before_hash}

@@ -4,6 +4,7 @@ ghost use Rattle.cts_base.specs.Words.{is_hash, words_of, before_hash};
 
 use crate::line_walk::Lines;
 use crate::word_walk::Words;
+use memchr::memchr;
 
 /// Walks the lines of a text of at most 16 MiB. It takes no memory.
 pub fn lines<'a>(text: &'a [u8]) -> Lines<'a>
@@ -33,5 +34,5 @@ pub fn before_comment(line: &[u8]) -> &[u8]
 fn first_hash(line: &[u8]) -> Option<usize>
     ensures { result ≡ position is_hash line.now }
 {
-    line.iter().position(|byte| *byte == b'#')
+    memchr(b'#', line)
 }

@@ -1,11 +1,11 @@
 ghost use Rattle.std.specs.Prelude.{◌≡◌, ◌∷◌, [], IfOk};
-ghost use Rattle.cts_model.specs.Vocabulary.{words_in, number_of};
+ghost use Rattle.cts_model.specs.Vocabulary.{number_of};
 ghost use Rattle.move_session.specs.Moves.{fault_of, move_of, told_at};
 ghost use Rattle.name_set.specs.RegisterNames.{register_names};
 ghost use Rattle.move_session.specs.declared.fault.MovesFault.TheVariants as fault;
 
 use crate::{Move, MovesFault};
-use cts_base::{Line, LineFormat, Listed, NoMemory, Words, before_comment, words};
+use cts_base::{Line, LineFormat, Listed, NoMemory, Words};
 use cts_model::{Circuit, read_point};
 use name_set::{NameSet, register_names};
 use std::alloc::Global;
@@ -64,7 +64,7 @@ impl<'a> LineFormat<'a> for Moving {
     ghost has_read = { HasTaken };
 
     fn read_line(&mut self, line: Line<'a>) -> Result<(), MovesFault> {
-        let mut words = words_in(line.text);
+        let mut words = line.words();
         let Some(name) = words.next() else {
             return Ok(());
         };
@@ -75,11 +75,4 @@ impl<'a> LineFormat<'a> for Moving {
         self.moves.push(next)?;
         Ok(())
     }
-}
-
-// The words of a line, its comment cut off.
-fn words_in<'a>(line: &'a [u8]) -> Words<'a>
-    ensures { result ≡ words_in line.now }
-{
-    words(before_comment(line))
 }

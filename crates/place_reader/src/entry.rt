@@ -4,7 +4,7 @@ ghost use Rattle.cts_model.specs.Vocabulary.{entry_of_words, is_header, is_not_b
 ghost use Rattle.place_reader.specs.View.{is_written, said_by};
 
 use crate::tail::is_tail;
-use cts_base::{before_comment, words};
+use cts_base::Line;
 
 /// The line of a node: its name and its coordinates as they are written.
 #[derive(Clone, Copy, Debug, PartialEq, Eq)]
@@ -28,12 +28,12 @@ pub(crate) enum Entry<'a> {
 impl<'a> Entry<'a> {
     /// Reads a line; `begun` says that an earlier one isn't blank. `None` says that it has no form
     /// of the format.
-    pub(crate) fn of(begun: bool, line: &'a [u8]) -> Option<Entry<'a>>
-        ensures said { option_map said_by result ≡ entry_of_words begun (place_words line.now) }
+    pub(crate) fn of(begun: bool, line: Line<'a>) -> Option<Entry<'a>>
+        ensures said { option_map said_by result ≡ entry_of_words begun (place_words line.entry.text.now) }
         ensures written { IfSome result
-            (λ entry. is_written (said_by entry) ≡ is_not_blank line.now) }
+            (λ entry. is_written (said_by entry) ≡ is_not_blank line.entry.text.now) }
     {
-        let mut words = words(before_comment(line));
+        let mut words = line.words();
         let Some(name) = words.next() else {
             return Some(Entry::Blank);
         };

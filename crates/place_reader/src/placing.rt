@@ -35,7 +35,7 @@ impl<'a> LineFormat<'a> for Placing {
     ghost has_read = { HasTaken };
 
     fn read_line(&mut self, line: Line<'a>) -> Result<(), PlaceFault> {
-        let Some(entry) = Entry::of(self.begun, line.text) else {
+        let Some(entry) = Entry::of(self.begun, line) else {
             return Err(PlaceFault::BadLine(line.number));
         };
         self.take(line.number, entry)

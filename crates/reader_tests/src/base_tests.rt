@@ -1,18 +1,19 @@
 use crate::same::expect_same;
-use cts_base::{Line, Listed, before_comment, lines, words};
+use cts_base::{Listed, before_comment, lines, words};
 use std::process::Abort;
 
 fn expect_lines(rt: &impl Abort, text: &str, wanted: &[(u32, &str)]) {
     assert!(rt; text.len() <= 16_777_216);
     let mut walk = lines(text.as_bytes());
     for (number, line) in wanted {
-        let wanted = Line {
-            number: *number,
-            text: line.as_bytes(),
+        let Some(found) = walk.next() else {
+            panic!(rt; "no line {number} in {text:?}");
         };
-        expect_same(rt, walk.next(), Some(wanted), &text);
+        expect_same(rt, found.number, *number, &text);
+        expect_same(rt, found.text, line.as_bytes(), &text);
+        expect_same(rt, found.content, before_comment(line.as_bytes()), &text);
     }
-    expect_same(rt, walk.next(), None, &text);
+    assert!(rt; walk.next().is_none(), "after {text:?}");
 }
 
 // A text, and its lines with their numbers.

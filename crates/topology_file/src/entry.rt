@@ -1,19 +1,11 @@
 ghost use Rattle.std.specs.Prelude.{◌≡◌, ◌<◌, ◌-◌, ◌^◌, [], ◌∷◌, Some, None, if◌then◌else◌};
 ghost use Rattle.std.specs.Str.Parse.{digits_value};
 ghost use Rattle.cts_base.specs.NumberTexts.{is_plain_numeral};
-ghost use Rattle.cts_model.specs.Vocabulary.{words_in};
 ghost use Rattle.topology_file.specs.Entries.{is_entry, merge_of};
 ghost use Rattle.topology_file.specs.Kept.{kept_number, kept_merge};
 
-use cts_base::{Words, before_comment, read_whole, words};
+use cts_base::{Words, read_whole};
 use cts_model::Merge;
-
-/// The words of a line, its comment cut off.
-pub(crate) fn words_in<'a>(line: &'a [u8]) -> Words<'a>
-    ensures { result ≡ words_in line.now }
-{
-    words(before_comment(line))
-}
 
 /// The merge that the words of a line name, the lower node first, where they are three numbers and
 /// the first is the node that is due. Numbers are kept as `number_of` keeps them.

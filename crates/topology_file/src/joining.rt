@@ -1,7 +1,7 @@
 ghost use Rattle.std.specs.Prelude.{◌≡◌, ◌≤◌, ◌<◌, ◌+◌, ◌*◌, ◌==◌, [], length, IsTrue, ◌↔◌, OnOk, IfOk, MatchOption, Some, None, vec_len, if◌then◌else◌};
 
 use crate::TopologyFault;
-use crate::entry::{merge_of, words_in};
+use crate::entry::merge_of;
 use cts_base::{Line, LineFormat, Listed, NoMemory};
 use cts_model::{Merge, Topology};
 use std::alloc::Global;
@@ -97,7 +97,7 @@ impl<'a> LineFormat<'a> for Joining {
     ghost has_read = { λ start. HasTaken start.sinks };
 
     fn read_line(&mut self, line: Line<'a>) -> Result<(), TopologyFault> {
-        let mut words = words_in(line.text);
+        let mut words = line.words();
         let Some(made) = words.next() else {
             return Ok(());
         };
