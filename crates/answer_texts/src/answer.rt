@@ -1,8 +1,5 @@
 ghost use Rattle.std.specs.Prelude.{◌≡◌, IfOk};
-ghost use Rattle.answer_texts.specs.Types.{Tech};
-ghost use Rattle.cts_model.specs.Vocabulary.{text_of, IsForbidding};
-ghost use Rattle.answer_texts.specs.Endings.{ending_status};
-ghost use Rattle.answer_texts.specs.PeriodTexts.{never_lines};
+ghost use Rattle.answer_texts.specs.Vocabulary.{Tech, text_of, IsForbidding, ending_status, never_lines};
 
 use cts_base::NoMemory;
 use cts_model::{Circuit, Constraint};

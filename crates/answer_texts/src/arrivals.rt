@@ -1,8 +1,7 @@
 //! The lines of a schedule alone: when the clock is to reach each register.
 
 ghost use Rattle.std.specs.Prelude.{◌≡◌, ◌<◌, ◌++◌, length, OnOk, IfOk};
-ghost use Rattle.cts_model.specs.Vocabulary.{line_of, text_of};
-ghost use Rattle.answer_texts.specs.ArrivalTexts.{CanPrint, all_at_zero, arrival_line, arrival_lines};
+ghost use Rattle.answer_texts.specs.Vocabulary.{line_of, text_of, CanPrint, all_at_zero, arrival_line, arrival_lines};
 
 use cts_base::{Listed, NoMemory, push_quotient};
 use cts_model::{Circuit, Schedule};

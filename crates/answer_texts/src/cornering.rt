@@ -1,14 +1,7 @@
 //! The text of the command `corners`: when the clock is to reach each register at several corners.
 
 ghost use Rattle.std.specs.Prelude.{◌≡◌, ◌<◌, ◌++◌, ◌∷◌, [], pos, All, List, length, OnOk, IfOk};
-ghost use Rattle.std.specs.Fmt.{signed_decimal};
-ghost use Rattle.cts_base.specs.declared.fraction.Fraction.{Fraction};
-ghost use Rattle.answer_texts.specs.Types.{Tech};
-ghost use Rattle.cts_model.specs.Vocabulary.{constraint_line, line_of, text_of, IsBetweenRegisters};
-ghost use Rattle.corners.specs.CornerCycles.{IsCommonShow};
-ghost use Rattle.corners.specs.CornerOutcomes.{HasSmallCommonTimes, IsCornersOutcome};
-ghost use Rattle.answer_texts.specs.Endings.{ending_status};
-ghost use Rattle.answer_texts.specs.CornerTexts.{numbered_line, numbered_line_at, numbered_lines, common_show_lines, corners_lines, corners_status};
+ghost use Rattle.answer_texts.specs.Vocabulary.{signed_decimal, Fraction, Tech, constraint_line, line_of, text_of, IsBetweenRegisters, IsCommonShow, HasSmallCommonTimes, IsCornersOutcome, ending_status, numbered_line, numbered_line_at, numbered_lines, common_show_lines, corners_lines, corners_status};
 
 use crate::answer::{Answer, Ending};
 use crate::arrivals::push_arrivals;

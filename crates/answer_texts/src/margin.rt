@@ -1,11 +1,7 @@
 //! The text of the command `margin`: what every setup and hold inequality has to spare at a period.
 
 ghost use Rattle.std.specs.Prelude.{◌≡◌, ◌++◌, OnOk, IfOk};
-ghost use Rattle.cts_base.specs.declared.fraction.Fraction.{Fraction};
-ghost use Rattle.answer_texts.specs.Types.{Tech};
-ghost use Rattle.cts_model.specs.Vocabulary.{line_of, text_of};
-ghost use Rattle.outcomes.specs.CircuitMargins.{IsMarginOutcome, IsSmallOutcome};
-ghost use Rattle.answer_texts.specs.MarginTexts.{margin_line, margin_lines, spared_lines};
+ghost use Rattle.answer_texts.specs.Vocabulary.{Fraction, Tech, line_of, text_of, IsMarginOutcome, IsSmallOutcome, margin_line, margin_lines, spared_lines};
 
 use crate::arrivals::{all_at_zero, push_arrivals};
 use cts_base::{Fraction, NoMemory, push_fraction};

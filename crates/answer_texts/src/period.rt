@@ -1,12 +1,7 @@
 //! The text of the command `period`: the least period that any arrivals allow.
 
 ghost use Rattle.std.specs.Prelude.{◌≡◌, ◌++◌, OnOk, IfOk};
-ghost use Rattle.answer_texts.specs.Types.{Tech};
-ghost use Rattle.cts_model.specs.Vocabulary.{line_of, text_of, IsPeriodShow};
-ghost use Rattle.outcomes.specs.PeriodOutcomes.{IsPeriodOutcome};
-ghost use Rattle.answer_texts.specs.Endings.{ending_status};
-ghost use Rattle.answer_texts.specs.PeriodTexts.{zero_line, found_lines};
-ghost use Rattle.answer_texts.specs.PeriodTexts.{period_lines, outcome_status};
+ghost use Rattle.answer_texts.specs.Vocabulary.{Tech, line_of, text_of, IsPeriodShow, IsPeriodOutcome, ending_status, zero_line, found_lines, period_lines, outcome_status};
 
 use crate::answer::Answer;
 use cts_base::{Fraction, NoMemory};

@@ -1,6 +1,5 @@
 ghost use Rattle.std.specs.Prelude.{◌≡◌, ◌<◌, ◌++◌, length, OnOk};
-ghost use Rattle.cts_model.specs.Vocabulary.{line_of, text_of};
-ghost use Rattle.answer_texts.specs.ScheduleTexts.{IsSmallSchedule, register_line_at, register_lines};
+ghost use Rattle.answer_texts.specs.Vocabulary.{line_of, text_of, IsSmallSchedule, register_line_at, register_lines};
 
 use cts_base::NoMemory;
 use cts_model::{Circuit, Schedule, Slack};

@@ -1,12 +1,7 @@
 //! The text of the command `schedule`: when the clock is to reach each register.
 
 ghost use Rattle.std.specs.Prelude.{◌≡◌, IfOk};
-ghost use Rattle.answer_texts.specs.Types.{Tech};
-ghost use Rattle.cts_model.specs.Vocabulary.{text_of};
-ghost use Rattle.outcomes.specs.ScheduleOutcomes.{period_outcome, HasSmallTimes, IsScheduleOutcome};
-ghost use Rattle.answer_texts.specs.Endings.{ending_status};
-ghost use Rattle.answer_texts.specs.PeriodTexts.{outcome_status};
-ghost use Rattle.answer_texts.specs.ScheduleTexts.{schedule_lines};
+ghost use Rattle.answer_texts.specs.Vocabulary.{Tech, text_of, period_outcome, HasSmallTimes, IsScheduleOutcome, ending_status, outcome_status, schedule_lines};
 
 use crate::answer::Answer;
 use crate::period::push_found;

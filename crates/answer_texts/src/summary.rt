@@ -1,9 +1,7 @@
 //! The text of the command `demo`: the summary of a clock tree whose report is shown.
 
 ghost use Rattle.std.specs.Prelude.{◌≡◌, IfOk};
-ghost use Rattle.answer_texts.specs.Types.{Tech};
-ghost use Rattle.cts_model.specs.Vocabulary.{IsWithinBounds, text_of};
-ghost use Rattle.answer_texts.specs.DemoTexts.{summary_lines};
+ghost use Rattle.answer_texts.specs.Vocabulary.{Tech, IsWithinBounds, text_of, summary_lines};
 
 use cts_base::NoMemory;
 use cts_model::Report;

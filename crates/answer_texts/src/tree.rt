@@ -1,11 +1,7 @@
 //! The text of the commands `synth` and `embed`: the report of a clock tree.
 
 ghost use Rattle.std.specs.Prelude.{◌≡◌, IfOk};
-ghost use Rattle.answer_texts.specs.Types.{Topology};
-ghost use Rattle.cts_model.specs.Vocabulary.{text_of};
-ghost use Rattle.outcomes.specs.SynthesisOutcomes.{IsOutcomeWith};
-ghost use Rattle.answer_texts.specs.Endings.{ending_status};
-ghost use Rattle.answer_texts.specs.SynthTexts.{synthesis_lines, synthesis_status};
+ghost use Rattle.answer_texts.specs.Vocabulary.{Topology, text_of, IsOutcomeWith, ending_status, synthesis_lines, synthesis_status};
 
 use crate::answer::Answer;
 use cts_base::NoMemory;

@@ -1,8 +1,7 @@
 //! The text of the command `zero`: the least period at equal arrivals.
 
 ghost use Rattle.std.specs.Prelude.{◌≡◌, ◌++◌, OnOk, IfOk};
-ghost use Rattle.cts_model.specs.Vocabulary.{IsZeroSkew, HasSmallDelays, line_of, text_of};
-ghost use Rattle.answer_texts.specs.ZeroTexts.{reason_line, zero_lines};
+ghost use Rattle.answer_texts.specs.Vocabulary.{IsZeroSkew, HasSmallDelays, line_of, text_of, reason_line, zero_lines};
 
 use crate::period::push_zero;
 use cts_base::NoMemory;

@@ -6,3 +6,4 @@ pub mod Taken
 pub mod Tallies
 pub mod Uses
 pub mod View
+pub mod Vocabulary

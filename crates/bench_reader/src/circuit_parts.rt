@@ -1,14 +1,5 @@
 ghost use Rattle.std.specs.Prelude.{◌≡◌, ◌≤◌, List, ℕ, Some, true, [], ◌∷◌, ◌++◌, length, IfOk, IfErr, OnOk, IsSomeAnd, nat_eq};
-ghost use Rattle.std.specs.List.{filter_map};
-ghost use Rattle.cts_base.specs.LineFormats.{IsFaultOf, first_fault};
-ghost use Rattle.cts_base.specs.Lines.{lines_of};
-ghost use Rattle.cts_model.specs.Vocabulary.{registers_of, number_of, statement_of, uses_of};
-ghost use Rattle.indexmap.specs.IndexSet.{insert_key};
-ghost use Rattle.bench_reader.specs.declared.fault.BenchFault.{BenchFault};
-ghost use Rattle.bench_reader.specs.Faults.{has_kind, use_fault};
-ghost use Rattle.bench_reader.specs.Taken.{HasParts};
-ghost use Rattle.bench_reader.specs.Uses.{AreNumbered, IsUseFault};
-ghost use Rattle.bench_reader.specs.View.{said_by};
+ghost use Rattle.bench_reader.specs.Vocabulary.{filter_map, IsFaultOf, first_fault, lines_of, registers_of, number_of, statement_of, uses_of, insert_key, BenchFault, has_kind, use_fault, HasParts, AreNumbered, IsUseFault, said_by};
 
 use crate::BenchFault;
 use crate::input_list::InputList;

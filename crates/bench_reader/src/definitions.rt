@@ -1,10 +1,5 @@
 ghost use Rattle.std.specs.Prelude.{◌≡◌, ◌≤◌, ◌+◌, List, ℕ, [], ◌∷◌, ◌++◌, None, Some, length, MatchResult, if◌then◌else◌};
-ghost use Rattle.cts_base.specs.LineFormats.{IsFaultOf};
-ghost use Rattle.cts_model.specs.Vocabulary.{is_register, is_gate, statement_of};
-ghost use Rattle.bench_reader.specs.Faults.{fault_of};
-ghost use Rattle.bench_reader.specs.declared.fault.BenchFault.{BenchFault};
-ghost use Rattle.bench_reader.specs.declared.fault.Which.{Which};
-ghost use Rattle.bench_reader.specs.View.{said_by};
+ghost use Rattle.bench_reader.specs.Vocabulary.{IsFaultOf, is_register, is_gate, statement_of, fault_of, BenchFault, Which, said_by};
 
 use crate::kinds::{kind_of, may_have};
 use crate::names::Names;

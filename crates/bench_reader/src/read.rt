@@ -1,10 +1,5 @@
 ghost use Rattle.std.specs.Prelude.{◌≡◌, ◌≤◌, ◌<◌, ◌⊎◌, length, All, IfOk, IfErr, MatchResult};
-ghost use Rattle.cts_base.specs.LineFormats.{IsFaultOf};
-ghost use Rattle.cts_model.specs.Vocabulary.{HasNoHost};
-ghost use Rattle.bench_reader.specs.declared.fault.BenchFault.{BenchFault};
-ghost use Rattle.bench_reader.specs.Faults.{netlist_fault};
-ghost use Rattle.bench_reader.specs.Netlists.{AcceptsNetlist, RefusesNetlist, names_of_signals};
-ghost use Rattle.bench_reader.specs.Taken.{DenotesCircuit};
+ghost use Rattle.bench_reader.specs.Vocabulary.{IsFaultOf, HasNoHost, BenchFault, netlist_fault, AcceptsNetlist, RefusesNetlist, names_of_signals, DenotesCircuit};
 
 use crate::BenchFault;
 use crate::circuit_parts::{CircuitParts, read_parts};

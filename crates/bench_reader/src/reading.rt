@@ -1,10 +1,5 @@
 ghost use Rattle.std.specs.Prelude.{◌≡◌, ◌≤◌, ◌++◌, IfErr, IfOk, OnOk, Some, length};
-ghost use Rattle.std.specs.Option.{option_map, option_to_list};
-ghost use Rattle.cts_base.specs.LineFormats.{IsFaultOf, first_fault};
-ghost use Rattle.bench_reader.specs.declared.fault.BenchFault.{BenchFault};
-ghost use Rattle.bench_reader.specs.Faults.{fault_of};
-ghost use Rattle.bench_reader.specs.Said.{kept_of, unless_blank};
-ghost use Rattle.bench_reader.specs.View.{said_by};
+ghost use Rattle.bench_reader.specs.Vocabulary.{option_map, option_to_list, IsFaultOf, first_fault, BenchFault, fault_of, kept_of, unless_blank, said_by};
 
 use crate::BenchFault;
 use crate::definitions::Definitions;

@@ -1,10 +1,5 @@
 ghost use Rattle.std.specs.Prelude.{◌≡◌, ◌≢◌, ◌↔◌, ℕ, List, [], ◌∷◌, IfSome, IsNone, IsTrue};
-ghost use Rattle.std.specs.Option.{option_map};
-ghost use Rattle.std.specs.Str.{str_eq_ignore_ascii_case};
-ghost use Rattle.std.specs.List.{list_all};
-ghost use Rattle.cts_model.specs.Vocabulary.{is_short, statement_of, form_of, declaration_of, names_of, Word, Close, Equals};
-ghost use Rattle.cts_model.specs.netlist.Statements.{Blank};
-ghost use Rattle.bench_reader.specs.View.{said_by};
+ghost use Rattle.bench_reader.specs.Vocabulary.{option_map, str_eq_ignore_ascii_case, list_all, is_short, statement_of, form_of, declaration_of, names_of, Word, Close, Equals, Blank, said_by};
 
 use crate::input_list::InputList;
 use crate::tally::is_short;

@@ -1,6 +1,5 @@
 ghost use Rattle.std.specs.Prelude.{◌≡◌, ◌<◌, ◌+◌, ◌^◌, [], ◌∷◌};
-ghost use Rattle.cts_model.specs.Vocabulary.{is_short};
-ghost use Rattle.bench_reader.specs.Tallies.{tally_of, with_names};
+ghost use Rattle.bench_reader.specs.Vocabulary.{is_short, tally_of, with_names};
 
 // The longest that a name may be.
 const MAX_NAME_BYTES: usize = 255;

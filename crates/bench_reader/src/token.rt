@@ -1,11 +1,6 @@
 ghost use Rattle.std.specs.Prelude.{◌≡◌, ◌≤◌, ◌<◌, List, ◌∷◌, length};
-ghost use Rattle.std.specs.List.{prefix_len};
-ghost use Rattle.std.specs.Iterator.{YieldsFirstBy, YieldsFirstRef, item_count};
-ghost use Rattle.cts_base.specs.Words.{is_blank};
-ghost use Rattle.cts_model.specs.Vocabulary.{is_name_byte, tokens_of, mark_of};
+ghost use Rattle.bench_reader.specs.Vocabulary.{prefix_len, YieldsFirstBy, YieldsFirstRef, item_count, is_blank, is_name_byte, tokens_of, mark_of, words_in, token_of};
 ghost use Rattle.cts_model.specs.text.Tokens as format;
-ghost use Rattle.bench_reader.specs.Inputs.{words_in};
-ghost use Rattle.bench_reader.specs.View.{token_of};
 
 use std::marker::Model;
 

@@ -1,6 +1,5 @@
 ghost use Rattle.std.specs.Prelude.{◌≡◌, ◌<◌, ◌↔◌, All, IsTrue, length};
-ghost use Rattle.cts_model.specs.Vocabulary.{HoldsTogether, next_place};
-ghost use Rattle.cert_check.specs.Vocabulary.{AreTailsBefore, CycleBroken, Judges, Together};
+ghost use Rattle.cert_check.specs.Vocabulary.{HoldsTogether, next_place, AreTailsBefore, CycleBroken, Judges, Together};
 
 use crate::item::item_at;
 use crate::judge::Judge;

@@ -1,8 +1,5 @@
 ghost use Rattle.std.specs.Prelude.{◌≡◌, ◌<◌, ◌≤◌, ◌^◌, All, IsTrue, Some, length, slice_get, slice_index_or, if◌then◌else◌};
-ghost use Rattle.std.proofs.Props.{props};
-ghost use Rattle.cts_model.specs.Vocabulary.{is_gate, is_valid, IsGate, IsBelow};
-ghost use Rattle.cts_model.specs.table.Tables.{IsWithin};
-ghost use Rattle.cert_check.specs.Vocabulary.{gate_delay_by, through_by};
+ghost use Rattle.cert_check.specs.Vocabulary.{props, is_gate, is_valid, IsGate, IsBelow, IsWithin, gate_delay_by, through_by};
 
 use crate::item::item_at;
 use cts_model::{Circuit, Signal, Tech};

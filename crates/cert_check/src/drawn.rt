@@ -1,6 +1,5 @@
 ghost use Rattle.std.specs.Prelude.{◌≡◌, ◌↔◌, ◌≤◌, ◌*◌, ◌+◌, ◌^◌, ◌∷◌, pos, ◌≤ℤ◌, All, AllPairs, IsTrue, length, take};
-ghost use Rattle.cts_model.specs.Vocabulary.{AreApart, IsDrawn, IsStraight, pieces, total, IsPointBelow, IsSmallWire};
-ghost use Rattle.cert_check.specs.Vocabulary.{AreEnds, IsFree, IsWay, Share, greatest_common, least_common, piece};
+ghost use Rattle.cert_check.specs.Vocabulary.{AreApart, IsDrawn, IsStraight, pieces, total, IsPointBelow, IsSmallWire, AreEnds, IsFree, IsWay, Share, greatest_common, least_common, piece};
 
 use cts_model::{Point, Wire, manhattan};
 

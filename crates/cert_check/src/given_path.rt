@@ -1,7 +1,5 @@
 ghost use Rattle.std.specs.Prelude.{◌≡◌, ◌⊎◌, ◌<◌, ◌≤◌, ◌↔◌, ◌^◌, [], All, IsTrue, drop, length};
-ghost use Rattle.cts_model.specs.declared.report.Version.TheVariants.{Second};
-ghost use Rattle.cts_model.specs.Vocabulary.{GivesWeight, IsGate, IsBelow};
-ghost use Rattle.cert_check.specs.Vocabulary.{delay_by, pair_of, path_weight, PathBroken, Judges, GivenPath};
+ghost use Rattle.cert_check.specs.Vocabulary.{Second, GivesWeight, IsGate, IsBelow, delay_by, pair_of, path_weight, PathBroken, Judges, GivenPath};
 
 use crate::delay::{Gates, register_delay};
 use crate::item::item_at;

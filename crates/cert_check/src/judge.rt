@@ -1,6 +1,5 @@
 ghost use Rattle.std.specs.Prelude.{◌≡◌, ◌≤◌, ◌^◌, All, length};
-ghost use Rattle.cts_model.specs.Vocabulary.{IsBelow, IsUvBelow, HasSmallWeight, HasSmallWeights, HasTreeBounds, IsBetweenRegisters, IsOfSize, IsSmallLead, cycle_of, IsSmallPeriod, leads_prop, size_prop, tree_prop, weights_prop};
-ghost use Rattle.cert_check.specs.SmallSinks.{IsSmallSink};
+ghost use Rattle.cert_check.specs.Vocabulary.{IsBelow, IsUvBelow, HasSmallWeight, HasSmallWeights, HasTreeBounds, IsBetweenRegisters, IsOfSize, IsSmallLead, cycle_of, IsSmallPeriod, leads_prop, size_prop, tree_prop, weights_prop, IsSmallSink};
 
 use cts_model::{Constraint, Problem, Report, Sink, Uv};
 

@@ -1,7 +1,5 @@
 ghost use Rattle.std.specs.Prelude.{◌≡◌, ◌<◌, ◌≤◌, ◌+◌, ◌↔◌, ◌^◌, ◌∷◌, [], IfOk, IsTrue, length};
-ghost use Rattle.cts_model.specs.declared.report.Version.TheVariants.{Second};
-ghost use Rattle.cts_model.specs.Vocabulary.{count_of, IsLedBy, IsTight, depth_of, lead_at, IsBelow, IsSmallLead, LeadsAmong, arrival_of};
-ghost use Rattle.cert_check.specs.Vocabulary.{Earliest, HasPaths, FitsLeads, IsTested, constraint_of, tight_constraints, NotLeast, Judges};
+ghost use Rattle.cert_check.specs.Vocabulary.{Second, count_of, IsLedBy, IsTight, depth_of, lead_at, IsBelow, IsSmallLead, LeadsAmong, arrival_of, Earliest, HasPaths, FitsLeads, IsTested, constraint_of, tight_constraints, NotLeast, Judges};
 
 use crate::down::are_same;
 use crate::judge::Judge;

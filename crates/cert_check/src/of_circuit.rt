@@ -1,6 +1,5 @@
 ghost use Rattle.std.specs.Prelude.{◌≡◌, ◌<◌, ◌↔◌, ◌^◌, All, IfOk, IfSome, IsSomeAnd, IsTrue, length, map};
-ghost use Rattle.cts_model.specs.Vocabulary.{IsOfCircuit, IsSmallPair, IsBelow, IsBetweenRegisters};
-ghost use Rattle.cert_check.specs.Vocabulary.{AreDelaysBetween, pair_of, weight_by, NotOfCircuit, Judges, HasPaths, OfCircuit};
+ghost use Rattle.cert_check.specs.Vocabulary.{IsOfCircuit, IsSmallPair, IsBelow, IsBetweenRegisters, AreDelaysBetween, pair_of, weight_by, NotOfCircuit, Judges, HasPaths, OfCircuit};
 
 use crate::judge::Judge;
 use crate::verdict::{Reason, Stop};

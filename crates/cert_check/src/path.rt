@@ -1,6 +1,5 @@
 ghost use Rattle.std.specs.Prelude.{◌≡◌, ◌<◌, ◌↔◌, All, IsTrue, length};
-ghost use Rattle.cts_model.specs.Vocabulary.{Captures, IsPath, Launches, Reads};
-ghost use Rattle.cert_check.specs.Vocabulary.{LeadsTo};
+ghost use Rattle.cert_check.specs.Vocabulary.{Captures, IsPath, Launches, Reads, LeadsTo};
 
 use crate::given_path::ShownPath;
 use crate::item::item_at;

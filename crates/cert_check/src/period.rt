@@ -1,6 +1,5 @@
 ghost use Rattle.std.specs.Prelude.{◌≡◌, ◌≤◌, ◌↔◌, ◌^◌, IsTrue, All, length, pos, ◌-ℤ◌, ◌*ℤ◌, ◌≤ℤ◌};
-ghost use Rattle.cts_model.specs.Vocabulary.{count_of, total_count, total_weight, GivesPeriod, IsFromFloor, IsBelow, HasSmallWeight, IsSmallPeriod};
-ghost use Rattle.cert_check.specs.Vocabulary.{BelowFloor, CycleValue, JudgesOnce};
+ghost use Rattle.cert_check.specs.Vocabulary.{count_of, total_count, total_weight, GivesPeriod, IsFromFloor, IsBelow, HasSmallWeight, IsSmallPeriod, BelowFloor, CycleValue, JudgesOnce};
 
 use crate::down::are_same;
 use crate::judge::Judge;

@@ -1,6 +1,5 @@
 ghost use Rattle.std.specs.Prelude.{◌≡◌, ◌<◌, ◌*◌, ◌^◌, ◌↔◌, IsTrue, All, length};
-ghost use Rattle.cts_model.specs.Vocabulary.{AreWiresDown, embedding_of, total_length, total_wire, IsBelow, number_at, IsTopology};
-ghost use Rattle.cert_check.specs.Vocabulary.{HasReach, Skewed, SkewDiffers, Unshown, Judges, Total, JudgesOnce};
+ghost use Rattle.cert_check.specs.Vocabulary.{AreWiresDown, embedding_of, total_length, total_wire, IsBelow, number_at, IsTopology, HasReach, Skewed, SkewDiffers, Unshown, Judges, Total, JudgesOnce};
 
 use crate::down::{are_same, difference};
 use crate::judge::Judge;

@@ -1,6 +1,5 @@
 ghost use Rattle.std.specs.Prelude.{◌≡◌, ◌↔◌, ◌<◌, ◌≤◌, ◌+◌, ◌*◌, IfOk, IsTrue, length};
-ghost use Rattle.cts_model.specs.Vocabulary.{IsTopology, source_of, rotated};
-ghost use Rattle.cert_check.specs.Vocabulary.{TreeShape, Judges, JudgesOnce, IsOfUnmarked, JoinsAt, StandsAt, Shaped, tree_of};
+ghost use Rattle.cert_check.specs.Vocabulary.{IsTopology, source_of, rotated, TreeShape, Judges, JudgesOnce, IsOfUnmarked, JoinsAt, StandsAt, Shaped, tree_of};
 
 use crate::judge::Judge;
 use crate::verdict::{Reason, Stop};

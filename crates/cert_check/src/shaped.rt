@@ -1,6 +1,5 @@
 ghost use Rattle.std.specs.Prelude.{◌≤◌, IfOk, length};
-ghost use Rattle.cts_model.specs.Vocabulary.{IsTopology};
-ghost use Rattle.cert_check.specs.Parents.{AreParents};
+ghost use Rattle.cert_check.specs.Vocabulary.{IsTopology, AreParents};
 
 use crate::judge::Judge;
 use cts_base::NoMemory;

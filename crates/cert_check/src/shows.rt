@@ -1,6 +1,5 @@
 ghost use Rattle.std.specs.Prelude.{◌≡◌, ◌<◌, ◌≤◌, ◌+◌, ◌*◌, ◌^◌, ◌↔◌, ◌+ℤ◌, IsTrue, IsSomeAnd, Some, length, slice_get};
-ghost use Rattle.cts_model.specs.Vocabulary.{IsBelow, IsUvBelow, apart, rotated_distance, span, ShowsAmong, number_at, ShowsMerge, ShowsSource, numbers_below, root_of, source_of};
-ghost use Rattle.cert_check.specs.Vocabulary.{HasReach, IsSmallSink, IsMergeShown, IsReachOver, IsSourceShown};
+ghost use Rattle.cert_check.specs.Vocabulary.{IsBelow, IsUvBelow, apart, rotated_distance, span, ShowsAmong, number_at, ShowsMerge, ShowsSource, numbers_below, root_of, source_of, HasReach, IsSmallSink, IsMergeShown, IsReachOver, IsSourceShown};
 
 use crate::down::{are_same, difference, sum};
 use crate::item::item_at;

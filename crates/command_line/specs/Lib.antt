@@ -2,3 +2,4 @@ pub mod CommandTable
 pub mod Commands
 pub mod Parsers
 pub mod PlainWords
+pub mod Vocabulary

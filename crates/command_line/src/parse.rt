@@ -1,11 +1,8 @@
 //! Plain words, read by a parser for the options of their command.
 
 ghost use Rattle.std.specs.Prelude.{◌≡◌, map, is_some, option_map, Some, string_bytes, true, false, IfOk, IfErr};
-ghost use Rattle.clap.specs.Words.{app_of, rule_of, kind_of, found_of, first_value};
-ghost use Rattle.command_line.specs.CommandTable.{choices_of, form_of};
-ghost use Rattle.command_line.specs.Commands.{values_of, tables_of, are_tables, IsCommand};
-ghost use Rattle.command_line.specs.PlainWords.{has_values, row_values, value_in_row, IsPlain};
-ghost use Rattle.command_line.specs.Parsers.{long_name, rule_for, parser_for};
+ghost use Rattle.command_line.specs.Vocabulary.{app_of, rule_of, found_of, first_value, choices_of, form_of, values_of, tables_of, are_tables, IsCommand, has_values, row_values, value_in_row, IsPlain, long_name, rule_for, parser_for};
+ghost use Rattle.clap.specs.Words.{kind_of};
 
 use crate::command::Command;
 use crate::table::{Choice, Form};

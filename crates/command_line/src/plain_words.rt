@@ -2,13 +2,7 @@
 //! then the delay tables that it takes.
 
 ghost use Rattle.std.specs.Prelude.{◌≡◌, ◌↔◌, ◌||◌, map, string_bytes, IsTrue, IfSome, IsNone};
-ghost use Rattle.std.specs.Char.{is_ascii_digit};
-ghost use Rattle.std.specs.List.{list_all};
-ghost use Rattle.cts_model.specs.Vocabulary.{IsMarginPeriod};
-ghost use Rattle.command_line.specs.declared.command.Command.{Command};
-ghost use Rattle.command_line.specs.CommandTable.{is_required, takes_tables};
-ghost use Rattle.command_line.specs.Commands.{is_file_name, is_number_within, is_period, is_value, is_taken, IsCommand, are_tables};
-ghost use Rattle.command_line.specs.PlainWords.{IsPlain, has_option, is_option, are_options, has_required, are_plain, before_tables, tables_among};
+ghost use Rattle.command_line.specs.Vocabulary.{is_ascii_digit, list_all, IsMarginPeriod, Command, is_required, takes_tables, is_file_name, is_number_within, is_period, is_value, is_taken, IsCommand, are_tables, IsPlain, has_option, is_option, are_options, has_required, are_plain, before_tables, tables_among};
 
 use crate::table::{Choice, Form, ValueKind};
 use cts_base::{Fraction, read_fraction};

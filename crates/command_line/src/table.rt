@@ -1,9 +1,8 @@
 //! The table of commands: the name and the options of each, as they stand in the usage line.
 
 ghost use Rattle.std.specs.Prelude.{◌≡◌, find, IfSome};
-ghost use Rattle.std.specs.Str.{bytes_eq};
-ghost use Rattle.command_line.specs.declared.table.Form.{Form};
-ghost use Rattle.command_line.specs.CommandTable.{forms, form_name, form_named, choices_of, table_bounds, word_of, kind_of, is_required};
+ghost use Rattle.command_line.specs.Vocabulary.{bytes_eq, Form, forms, form_name, form_named, choices_of, table_bounds, word_of, is_required};
+ghost use Rattle.command_line.specs.CommandTable.{kind_of};
 
 use Choice::{Bench, MovesFile, Placement, Registers, Report, Seed, Tech, TechIfWanted, Topology};
 use Form::{Check, Corners, Demo, Embed, Margin, Moves, Period, Schedule, Synth, Zero};

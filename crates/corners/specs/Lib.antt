@@ -1,9 +1,10 @@
-pub mod CornerLists
-pub mod GreatestWeights
 pub mod CommonPeriods
-pub mod CornerCycles
 pub mod CornerConstraints
+pub mod CornerCycles
+pub mod CornerLists
 pub mod CornerOutcomes
+pub mod GreatestWeights
 pub mod Inclusions
 pub mod NamedPlaces
 pub mod Types
+pub mod Vocabulary

@@ -1,6 +1,5 @@
 ghost use Rattle.std.specs.Prelude.{◌≡◌, ◌<◌, ◌++◌, ◌∷◌, [], List, IfOk, length};
-ghost use Rattle.corners.specs.Types.{Constraint};
-ghost use Rattle.critical_cycle.specs.CyclePlaces.{AreWithin};
+ghost use Rattle.corners.specs.Vocabulary.{Constraint, AreWithin};
 
 use cts_base::{Listed, NoMemory};
 use cts_model::Constraint;

@@ -1,8 +1,5 @@
 ghost use Rattle.std.specs.Prelude.{◌≤◌, ℕ, List, IfOk, IfErr, length};
-ghost use Rattle.cts_model.specs.Vocabulary.{JoinsMoreThan, IsLoop};
-ghost use Rattle.gate_order.specs.LevelParts.{IsLevelsOf};
-ghost use Rattle.path_delays.specs.JoinedPairs.{ShowsTooMany};
-ghost use Rattle.corners.specs.CornerConstraints.{AreCommonConstraints, AreConstraintsBy};
+ghost use Rattle.corners.specs.Vocabulary.{JoinsMoreThan, IsLoop, IsLevelsOf, ShowsTooMany, AreCommonConstraints, AreConstraintsBy};
 
 use crate::Combined;
 use constraints::constraints_of;

@@ -1,7 +1,5 @@
 ghost use Rattle.std.specs.Prelude.{◌≡◌, ◌<◌, ◌↔◌, ℕ, ℤ, All, IfOk, length};
-ghost use Rattle.cts_model.specs.Vocabulary.{Satisfies, AreSmallConstraints};
-ghost use Rattle.corners.specs.CornerLists.{AreCorners};
-ghost use Rattle.corners.specs.GreatestWeights.{IsCombinedAt};
+ghost use Rattle.corners.specs.Vocabulary.{Satisfies, AreSmallConstraints, AreCorners, IsCombinedAt};
 
 use crate::Combined;
 use cts_base::{Listed, NoMemory};

@@ -1,10 +1,5 @@
 ghost use Rattle.std.specs.Prelude.{◌≤◌, ◌↔◌, ℕ, List, IfOk, IfErr, length};
-ghost use Rattle.cts_model.specs.Vocabulary.{JoinsMoreThan, IsLoop};
-ghost use Rattle.critical_cycle.specs.Floors.{IsSmallFloor};
-ghost use Rattle.path_delays.specs.JoinedPairs.{ShowsTooMany};
-ghost use Rattle.corners.specs.CommonPeriods.{HasNoCommonPeriod};
-ghost use Rattle.corners.specs.CornerConstraints.{AreCommonConstraints, IsGreatestOf};
-ghost use Rattle.corners.specs.CornerOutcomes.{HasLowestFirst, HasSmallCommonTimes, IsCornersOutcome, IsNeverCommon};
+ghost use Rattle.corners.specs.Vocabulary.{JoinsMoreThan, IsLoop, IsSmallFloor, ShowsTooMany, HasNoCommonPeriod, AreCommonConstraints, IsGreatestOf, HasLowestFirst, HasSmallCommonTimes, IsCornersOutcome, IsNeverCommon};
 
 use crate::Combined;
 use crate::list_of_corner::{combined_by, levels_of};

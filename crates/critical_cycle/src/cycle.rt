@@ -1,6 +1,5 @@
 ghost use Rattle.std.specs.Prelude.{◌≡◌, ◌<◌, ◌≤◌, ◌^◌, ℕ, All, length, slice_index};
-ghost use Rattle.cts_model.specs.Vocabulary.{IsBelow};
-ghost use Rattle.critical_cycle.specs.CyclePlaces.{AreWithin, tail_at};
+ghost use Rattle.critical_cycle.specs.Vocabulary.{IsBelow, AreWithin, tail_at};
 
 use cts_model::Constraint;
 

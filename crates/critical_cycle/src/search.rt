@@ -1,8 +1,5 @@
 ghost use Rattle.std.specs.Prelude.{◌≡◌, ◌<◌, ◌≤◌, false, IsTrue, drop, length};
-ghost use Rattle.cts_model.specs.Vocabulary.{AreSmallConstraints};
-ghost use Rattle.critical_cycle.specs.Measures.{CanTry};
-ghost use Rattle.critical_cycle.specs.OneShown.{shown_prop};
-ghost use Rattle.critical_cycle.specs.ShownRatios.{IsShown};
+ghost use Rattle.critical_cycle.specs.Vocabulary.{AreSmallConstraints, CanTry, shown_prop, IsShown};
 
 use crate::cycle::Cycle;
 use crate::measure::Measure;

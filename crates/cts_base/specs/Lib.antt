@@ -4,4 +4,5 @@ pub mod LineFormats
 pub mod Lines
 pub mod NumberParts
 pub mod NumberTexts
+pub mod Vocabulary
 pub mod Words

@@ -1,6 +1,5 @@
 ghost use Rattle.std.specs.Prelude.{◌≡◌, ◌≤◌, ◌^◌, ◌∷◌, ◌++◌, length, pos, ◌*ℤ◌, ◌≤ℤ◌, nat_abs, OnOk, OnErr};
-ghost use Rattle.std.specs.Int.{IsGcd};
-ghost use Rattle.cts_base.specs.Fractions.{HasSizeBelow, IsLowest, fraction_text, quotient_text};
+ghost use Rattle.cts_base.specs.Vocabulary.{IsGcd, HasSizeBelow, IsLowest, fraction_text, quotient_text};
 
 use crate::NoMemory;
 use crate::divisor::gcd;

@@ -1,6 +1,5 @@
 ghost use Rattle.std.specs.Prelude.{◌≡◌, ◌≤◌, ◌+◌, ◌++◌, ◌∷◌, [], ℕ, List, Option, None, length, OnOk, IfOk, IfErr};
-ghost use Rattle.cts_base.specs.Lines.{lines_of};
-ghost use Rattle.cts_base.specs.LineFormats.{first_fault, IsFaultOf};
+ghost use Rattle.cts_base.specs.Vocabulary.{lines_of, first_fault, IsFaultOf};
 
 use crate::line_walk::Line;
 use crate::text::lines;

@@ -1,9 +1,5 @@
 ghost use Rattle.std.specs.Prelude.{◌≡◌, ◌≤◌, ◌<◌, ◌+◌, ◌^◌, List, ℕ, Some, ◌∷◌, length, position, take, IfSome};
-ghost use Rattle.std.specs.List.{enumerate_from};
-ghost use Rattle.std.specs.Str.Lines.{strip_carriage_return};
-ghost use Rattle.std.specs.Iterator.{YieldsFirstBy, item_count};
-ghost use Rattle.cts_base.specs.Lines.{is_line_feed, lines_of, numbered_lines};
-ghost use Rattle.cts_base.specs.Words.{before_hash, words_of};
+ghost use Rattle.cts_base.specs.Vocabulary.{enumerate_from, strip_carriage_return, YieldsFirstBy, item_count, is_line_feed, lines_of, numbered_lines, before_hash, words_of};
 
 use crate::text::{before_comment, words};
 use crate::word_walk::Words;

@@ -1,6 +1,5 @@
 ghost use Rattle.std.specs.Prelude.{◌≡◌, ◌≤◌, length, position};
-ghost use Rattle.cts_base.specs.Lines.{numbered_lines};
-ghost use Rattle.cts_base.specs.Words.{is_hash, words_of, before_hash};
+ghost use Rattle.cts_base.specs.Vocabulary.{numbered_lines, is_hash, words_of, before_hash};
 
 use crate::line_walk::Lines;
 use crate::word_walk::Words;

@@ -1,7 +1,5 @@
 ghost use Rattle.std.specs.Prelude.{◌≡◌, List, ℕ, ◌<◌, ◌∷◌, length, position};
-ghost use Rattle.std.specs.List.{position_or_len};
-ghost use Rattle.std.specs.Iterator.{YieldsFirstRef, item_count};
-ghost use Rattle.cts_base.specs.Words.{is_blank, is_not_blank, words_of};
+ghost use Rattle.cts_base.specs.Vocabulary.{position_or_len, YieldsFirstRef, item_count, is_blank, is_not_blank, words_of};
 
 use std::marker::Model;
 

@@ -4,3 +4,4 @@ pub mod Refusals
 pub mod ScheduleTexts
 pub mod Statuses
 pub mod SynthTexts
+pub mod Vocabulary

@@ -1,9 +1,7 @@
 //! How the text of an answer is handed to the caller.
 
 ghost use Rattle.std.specs.Prelude.{◌≡◌, ◌⊎◌};
-ghost use Rattle.answer_texts.specs.Endings.{ending_status};
-ghost use Rattle.cts_c.specs.Buffers.{IsHanded, IsTooLarge};
-ghost use Rattle.cts_c.specs.Statuses.{IsEnding};
+ghost use Rattle.cts_c.specs.Vocabulary.{ending_status, IsHanded, IsTooLarge, IsEnding};
 
 use answer_texts::Answer;
 

@@ -1,11 +1,7 @@
 //! `cts_check`: whether a report, whoever made it, shows what it says.
 
 ghost use Rattle.std.specs.Prelude.{◌≡◌, ◌≢◌, ◌⊎◌, ◌↔◌, Ok, Err, IfOk, IfErr};
-ghost use Rattle.cts_model.specs.declared.problem.Problem.{Problem};
-ghost use Rattle.cts_engine.specs.Accepted.{TellAll};
-ghost use Rattle.cts_c.specs.Findings.{IsJudged, IsShownReport, IsCheck};
-ghost use Rattle.cts_c.specs.Refusals.{AreAllShort, AreRefused, FailsFor};
-ghost use Rattle.cts_c.specs.Statuses.{IsFailure};
+ghost use Rattle.cts_c.specs.Vocabulary.{Problem, TellAll, IsJudged, IsShownReport, IsCheck, AreAllShort, AreRefused, FailsFor, IsFailure};
 
 use crate::failure::Failure;
 use crate::finding::Finding;

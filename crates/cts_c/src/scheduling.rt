@@ -1,18 +1,7 @@
 //! `cts_schedule`: the least schedule of a circuit at its least period.
 
 ghost use Rattle.std.specs.Prelude.{◌≡◌, ◌≢◌, ℕ, List, IfOk, IfErr};
-ghost use Rattle.cts_model.specs.declared.circuit.Circuit.{Circuit};
-ghost use Rattle.cts_model.specs.declared.tech.Tech.{Tech};
-ghost use Rattle.cts_model.specs.Vocabulary.{IsLoop, text_of, JoinsMoreThan};
-ghost use Rattle.outcomes.specs.ScheduleOutcomes.{period_outcome, HasSmallTimes, IsScheduleOutcome};
-ghost use Rattle.cts_engine.specs.Accepted.{TellBoth};
-ghost use Rattle.cts_c.specs.Buffers.{IsHanded, IsTooLarge, IsNone};
-ghost use Rattle.cts_c.specs.Refusals.{AreBothShort, RefusesSchedule, FailsFor};
-ghost use Rattle.cts_c.specs.ScheduleTexts.{IsScheduleAnswer, IsScheduleText};
-ghost use Rattle.cts_c.specs.Statuses.{IsEnding, IsFailure, IsStatus};
-ghost use Rattle.answer_texts.specs.Endings.{ending_status};
-ghost use Rattle.answer_texts.specs.PeriodTexts.{outcome_status};
-ghost use Rattle.answer_texts.specs.ScheduleTexts.{schedule_lines};
+ghost use Rattle.cts_c.specs.Vocabulary.{Circuit, Tech, IsLoop, text_of, JoinsMoreThan, period_outcome, HasSmallTimes, IsScheduleOutcome, TellBoth, IsHanded, IsTooLarge, IsNone, AreBothShort, RefusesSchedule, FailsFor, IsScheduleAnswer, IsScheduleText, IsEnding, IsFailure, IsStatus, ending_status, outcome_status, schedule_lines};
 
 use crate::answer::hand_over;
 use crate::failure::Failure;

@@ -1,17 +1,7 @@
 //! `cts_synth`: the clock tree of a problem.
 
 ghost use Rattle.std.specs.Prelude.{◌≡◌, ◌≢◌, ℕ, List, IfOk, IfErr};
-ghost use Rattle.cts_model.specs.declared.problem.Problem.{Problem};
-ghost use Rattle.cts_model.specs.declared.tree.Topology.{Topology};
-ghost use Rattle.cts_model.specs.Vocabulary.{text_of, JoinsMoreThan};
-ghost use Rattle.outcomes.specs.SynthesisOutcomes.{IsOutcomeWith};
-ghost use Rattle.cts_engine.specs.Accepted.{TellAll};
-ghost use Rattle.cts_c.specs.Buffers.{IsHanded, IsTooLarge, IsNone};
-ghost use Rattle.cts_c.specs.Refusals.{AreAllShort, RefusesTree, FailsFor};
-ghost use Rattle.cts_c.specs.Statuses.{IsEnding, IsFailure, IsStatus};
-ghost use Rattle.answer_texts.specs.Endings.{ending_status};
-ghost use Rattle.answer_texts.specs.SynthTexts.{synthesis_lines, synthesis_status};
-ghost use Rattle.cts_c.specs.SynthTexts.{IsSynthText, IsTreeAnswer};
+ghost use Rattle.cts_c.specs.Vocabulary.{Problem, Topology, text_of, JoinsMoreThan, IsOutcomeWith, TellAll, IsHanded, IsTooLarge, IsNone, AreAllShort, RefusesTree, FailsFor, IsEnding, IsFailure, IsStatus, ending_status, synthesis_lines, synthesis_status, IsSynthText, IsTreeAnswer};
 
 use crate::answer::hand_over;
 use crate::failure::Failure;

@@ -1,12 +1,7 @@
 //! What the texts of a call tell. A caller may hand in a text of any length.
 
 ghost use Rattle.std.specs.Prelude.{◌≡◌, ◌↔◌, ℕ, List, IsTrue, IfOk, IfErr};
-ghost use Rattle.cts_model.specs.declared.circuit.Circuit.{Circuit};
-ghost use Rattle.cts_model.specs.declared.problem.Problem.{Problem};
-ghost use Rattle.cts_model.specs.declared.tech.Tech.{Tech};
-ghost use Rattle.cts_model.specs.Vocabulary.{IsLoop};
-ghost use Rattle.cts_engine.specs.Accepted.{TellBoth, TellAll};
-ghost use Rattle.cts_c.specs.Refusals.{IsShort, AreBothShort, AreAllShort, AreBothRefused, AreRefused, FailsFor};
+ghost use Rattle.cts_c.specs.Vocabulary.{Circuit, Problem, Tech, IsLoop, TellBoth, TellAll, IsShort, AreBothShort, AreAllShort, AreBothRefused, AreRefused, FailsFor};
 
 use crate::failure::Failure;
 use cts_engine::{Denoted, accept, accept_circuit};

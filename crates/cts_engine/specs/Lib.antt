@@ -1,9 +1,10 @@
 pub mod Accepted
-pub mod PairConstraints
-pub mod CyclePaths
-pub mod TreeParts
 pub mod ClockTrees
+pub mod CyclePaths
+pub mod PairConstraints
 pub mod RegisterTimes
-pub mod SinkOutcomes
 pub mod SessionOutcomes
+pub mod SinkOutcomes
+pub mod TreeParts
 pub mod Types
+pub mod Vocabulary

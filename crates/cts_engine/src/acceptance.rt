@@ -1,8 +1,5 @@
 ghost use Rattle.std.specs.Prelude.{◌≡◌, ◌≢◌, ◌≤◌, ◌↔◌, ◌⊎◌, Bool, IsTrue, List, [], length, Ok, Err, IfOk, IfErr};
-ghost use Rattle.cts_engine.specs.Types.{Problem};
-ghost use Rattle.cts_model.specs.Vocabulary.{has_host, HasNoHost, AreUsedKinds, GivesUsedKinds};
-ghost use Rattle.delay_tables.specs.Refusals.{RefusesTable};
-ghost use Rattle.cts_engine.specs.Accepted.{IsHostedBy, TellsDelays, TellBoth, TellAll, IsCircuitRefusal, IsRefusal};
+ghost use Rattle.cts_engine.specs.Vocabulary.{Problem, has_host, HasNoHost, AreUsedKinds, GivesUsedKinds, RefusesTable, IsHostedBy, TellsDelays, TellBoth, TellAll, IsCircuitRefusal, IsRefusal};
 
 use crate::Refusal;
 use bench_reader::read_bench;

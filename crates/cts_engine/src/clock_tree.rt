@@ -1,7 +1,5 @@
 ghost use Rattle.std.specs.Prelude.{IfOk, length};
-ghost use Rattle.cts_model.specs.Vocabulary.{AreTreeSinks, IsTopology};
-ghost use Rattle.place_down.specs.Trees.{IsTreeSource};
-ghost use Rattle.cts_engine.specs.ClockTrees.{IsClockTree, IsMadeTree};
+ghost use Rattle.cts_engine.specs.Vocabulary.{AreTreeSinks, IsTopology, IsTreeSource, IsClockTree, IsMadeTree};
 
 use crate::wires::wires_of;
 use cts_base::{Listed, NoMemory};

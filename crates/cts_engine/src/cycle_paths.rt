@@ -1,6 +1,5 @@
 ghost use Rattle.std.specs.Prelude.{IfOk};
-ghost use Rattle.cts_model.specs.Vocabulary.{ArePathsOf, IsConstraintOf};
-ghost use Rattle.cts_engine.specs.CyclePaths.{IsShownBy};
+ghost use Rattle.cts_engine.specs.Vocabulary.{ArePathsOf, IsConstraintOf, IsShownBy};
 
 use cts_base::{Listed, NoMemory};
 use cts_model::PeriodShow;

@@ -1,7 +1,5 @@
 ghost use Rattle.std.specs.Prelude.{◌↔◌, ℕ, List, IfOk, IfErr};
-ghost use Rattle.cts_model.specs.Vocabulary.{JoinsMoreThan, IsLoop, IsMarginPeriod};
-ghost use Rattle.outcomes.specs.CircuitMargins.{HasNoPath, IsMarginOutcome, IsSmallOutcome, IsUnboundedOutcome};
-ghost use Rattle.path_delays.specs.JoinedPairs.{ShowsTooMany};
+ghost use Rattle.cts_engine.specs.Vocabulary.{JoinsMoreThan, IsLoop, IsMarginPeriod, HasNoPath, IsMarginOutcome, IsSmallOutcome, IsUnboundedOutcome, ShowsTooMany};
 
 use crate::SynthFault;
 use crate::order::levels_of;

@@ -1,7 +1,5 @@
 ghost use Rattle.std.specs.Prelude.{ℕ, List, IfOk, IfErr};
-ghost use Rattle.cts_model.specs.Vocabulary.{IsLoop};
-ghost use Rattle.gate_order.specs.LevelParts.{IsLevelsOf};
-ghost use Rattle.path_delays.specs.JoinedPairs.{ShowsTooMany};
+ghost use Rattle.cts_engine.specs.Vocabulary.{IsLoop, IsLevelsOf, ShowsTooMany};
 
 use crate::SynthFault;
 use cts_model::Circuit;

@@ -1,9 +1,6 @@
 ghost use Rattle.std.specs.Prelude.{◌≡◌, ◌↔◌, ℕ, List, IfOk, IfErr};
-ghost use Rattle.cts_model.specs.Vocabulary.{HasNoPeriod, JoinsMoreThan, IsLoop};
-ghost use Rattle.critical_cycle.specs.CyclePlaces.{AreWithin, constraints_at};
-ghost use Rattle.path_delays.specs.JoinedPairs.{ArePairs, ShowsTooMany};
-ghost use Rattle.outcomes.specs.PeriodOutcomes.{BeginsLowest, HasSmallZero, IsNeverOutcome, IsPeriodOutcome};
-ghost use Rattle.cts_engine.specs.RegisterTimes.{IsTiming};
+ghost use Rattle.cts_engine.specs.Vocabulary.{HasNoPeriod, JoinsMoreThan, IsLoop, AreWithin, constraints_at, ArePairs, ShowsTooMany, HasSmallZero, IsPeriodOutcome, IsTiming};
+ghost use Rattle.outcomes.specs.PeriodOutcomes.{BeginsLowest, IsNeverOutcome};
 
 use crate::SynthFault;
 use crate::order::levels_of;

@@ -1,8 +1,6 @@
 ghost use Rattle.std.specs.Prelude.{◌↔◌, ℕ, List, IfOk, IfErr};
-ghost use Rattle.cts_model.specs.Vocabulary.{HasNoPeriod, JoinsMoreThan, IsLoop};
-ghost use Rattle.path_delays.specs.JoinedPairs.{ShowsTooMany};
+ghost use Rattle.cts_engine.specs.Vocabulary.{HasNoPeriod, JoinsMoreThan, IsLoop, ShowsTooMany, HasSmallTimes, IsScheduleOutcome, period_outcome};
 ghost use Rattle.outcomes.specs.PeriodOutcomes.{BeginsLowest, IsNeverOutcome};
-ghost use Rattle.outcomes.specs.ScheduleOutcomes.{HasSmallTimes, IsScheduleOutcome, period_outcome};
 
 use crate::SynthFault;
 use crate::order::levels_of;

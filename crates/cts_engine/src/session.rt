@@ -1,9 +1,5 @@
 ghost use Rattle.std.specs.Prelude.{◌≡◌, ◌≤◌, ◌<◌, ◌^◌, ◌↔◌, List, length, slice_set, unsigned_abs, IfOk, IfErr};
-ghost use Rattle.cts_base.specs.declared.fraction.Fraction.{Fraction};
-ghost use Rattle.cts_engine.specs.Types.{Point, Problem, Schedule, Tech, Merge};
-ghost use Rattle.cts_model.specs.Vocabulary.{HasNoPeriod, JoinsMoreThan, IsPointBelow, IsUvBelow, IsUvMultipleOf, rotated, grid_of, on_grid, steps_of_micro};
-ghost use Rattle.path_delays.specs.JoinedPairs.{ShowsTooMany};
-ghost use Rattle.cts_engine.specs.SessionOutcomes.{ForbidsFromLowest, HasSmallGrid, IsGrid, IsNeverSession, IsSessionOutcome, StandsAt};
+ghost use Rattle.cts_engine.specs.Vocabulary.{Fraction, Point, Problem, Schedule, Tech, Merge, HasNoPeriod, JoinsMoreThan, IsPointBelow, IsUvBelow, IsUvMultipleOf, rotated, grid_of, on_grid, steps_of_micro, ShowsTooMany, ForbidsFromLowest, HasSmallGrid, IsGrid, IsNeverSession, IsSessionOutcome, StandsAt};
 
 use crate::SynthFault;
 use crate::sink_times::{SinkOutcome, timed_sinks};

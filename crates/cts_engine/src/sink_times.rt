@@ -1,9 +1,5 @@
 ghost use Rattle.std.specs.Prelude.{◌≡◌, IfOk, IfErr};
-ghost use Rattle.cts_model.specs.Vocabulary.{JoinsMoreThan};
-ghost use Rattle.gate_order.specs.LevelParts.{IsLevelsOf};
-ghost use Rattle.path_delays.specs.JoinedPairs.{ShowsTooMany};
-ghost use Rattle.cts_engine.specs.RegisterTimes.{HasLeastPeriod};
-ghost use Rattle.cts_engine.specs.SinkOutcomes.{AreTimedSinks, IsSinkOutcome, StartsLowest};
+ghost use Rattle.cts_engine.specs.Vocabulary.{JoinsMoreThan, IsLevelsOf, ShowsTooMany, HasLeastPeriod, AreTimedSinks, IsSinkOutcome, StartsLowest};
 
 use crate::SynthFault;
 use crate::order::levels_of;

@@ -1,9 +1,6 @@
 ghost use Rattle.std.specs.Prelude.{◌≡◌, ◌↔◌, IfOk, IfErr, length};
-ghost use Rattle.cts_model.specs.Vocabulary.{HasNoPeriod, JoinsMoreThan, sinks_in, IsTopology};
-ghost use Rattle.path_delays.specs.JoinedPairs.{ShowsTooMany};
-ghost use Rattle.cts_engine.specs.SinkOutcomes.{AreTimedSinks};
-ghost use Rattle.outcomes.specs.Syntheses.{IsReportWith};
-ghost use Rattle.outcomes.specs.SynthesisOutcomes.{BeginsLowest, IsNeverOutcome, IsOutcome, IsOutcomeWith, IsShownOutcome};
+ghost use Rattle.cts_engine.specs.Vocabulary.{HasNoPeriod, JoinsMoreThan, sinks_in, IsTopology, ShowsTooMany, AreTimedSinks, IsReportWith, IsOutcome, IsOutcomeWith, IsShownOutcome};
+ghost use Rattle.outcomes.specs.SynthesisOutcomes.{BeginsLowest, IsNeverOutcome};
 
 use crate::SynthFault;
 use crate::clock_tree::tree_with;

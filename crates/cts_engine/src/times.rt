@@ -1,6 +1,5 @@
 ghost use Rattle.std.specs.Prelude.{◌≡◌, IfOk};
-ghost use Rattle.gate_order.specs.LevelParts.{IsLevelsOf};
-ghost use Rattle.cts_engine.specs.RegisterTimes.{AreTimes, HasLeastPeriod};
+ghost use Rattle.cts_engine.specs.Vocabulary.{IsLevelsOf, AreTimes, HasLeastPeriod};
 
 use crate::cycle_paths::cycle_paths;
 use cts_base::{Fraction, Listed, NoMemory};

@@ -1,6 +1,5 @@
 ghost use Rattle.std.specs.Prelude.{◌≡◌, ◌<◌, ◌≤◌, ◌+◌, ◌*◌, All, IfOk, length};
-ghost use Rattle.cts_model.specs.Vocabulary.{embedding_of, IsSmallWire, IsTopology};
-ghost use Rattle.cts_engine.specs.TreeParts.{AreDrawn, CanDraw, CanDrawEdge, IsEdgeDrawn};
+ghost use Rattle.cts_engine.specs.Vocabulary.{embedding_of, IsSmallWire, IsTopology, AreDrawn, CanDraw, CanDrawEdge, IsEdgeDrawn};
 
 use cts_base::{Listed, NoMemory};
 use cts_model::{Point, Topology, Tree, Wire};

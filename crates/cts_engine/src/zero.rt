@@ -1,6 +1,5 @@
 ghost use Rattle.std.specs.Prelude.{ℕ, List, IfOk, IfErr};
-ghost use Rattle.cts_model.specs.Vocabulary.{IsZeroSkew, HasSmallDelays, JoinsMoreThan, IsLoop};
-ghost use Rattle.path_delays.specs.JoinedPairs.{ShowsTooMany};
+ghost use Rattle.cts_engine.specs.Vocabulary.{IsZeroSkew, HasSmallDelays, JoinsMoreThan, IsLoop, ShowsTooMany};
 
 use crate::SynthFault;
 use crate::order::levels_of;

@@ -5,4 +5,5 @@ pub mod MemorySink
 pub mod NeverFails
 pub mod Plan
 pub mod Stream
+pub mod Vocabulary
 pub mod Whole

@@ -1,9 +1,6 @@
 // Files and writers of the host. They tell none of their bytes.
 ghost use Rattle.std.specs.Prelude.{◌≡◌, ◌≤◌, ◌<◌, ℕ, List, length, Option, Some, None, Ok, Err, is_some, IfSome, IsSomeAnd, IsNone, IsOk, OnOk, OnErr, IfOk, IfErr, IsErrOf};
-ghost use Rattle.cts_io.specs.Device.{Rose, Takes};
-ghost use Rattle.cts_io.specs.Host.{absent};
-ghost use Rattle.cts_io.specs.Stream.{AnswersOpen, AnswersRead, AnswersWrite, Tried};
-ghost use Rattle.cts_io.specs.Plan.{raised};
+ghost use Rattle.cts_io.specs.Vocabulary.{Rose, Takes, absent, AnswersOpen, AnswersRead, AnswersWrite, Tried, raised};
 
 use crate::device::{Failed, Inputs, Sink, StartFault};
 use crate::opener::{FileOpener, open_file};

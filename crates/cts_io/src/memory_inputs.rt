@@ -1,9 +1,6 @@
 // Files in memory.
 ghost use Rattle.std.specs.Prelude.{◌≡◌, ◌≤◌, ◌<◌, ◌+◌, ◌^◌, ℕ, List, [], ◌++◌, length, take, drop, Option, Some, is_ok, is_err, OnOk, OnErr, IfOk, IfErr, IsErrOf, IfSome, IfNone, None, position};
-ghost use Rattle.std.specs.Str.{bytes_eq};
-ghost use Rattle.cts_io.specs.Device.{Rose, Takes};
-ghost use Rattle.cts_io.specs.Plan.{fresh_plan, fails_next};
-ghost use Rattle.cts_io.specs.MemoryInputs.{InputsState, held_in, bytes_at, starts, after_start, given, after_take};
+ghost use Rattle.cts_io.specs.Vocabulary.{bytes_eq, Rose, Takes, fresh_plan, fails_next, InputsState, held_in, bytes_at, starts, after_start, given, after_take};
 
 use crate::device::{Failed, Inputs, StartFault};
 use crate::plan::Plan;

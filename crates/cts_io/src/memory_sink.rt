@@ -1,8 +1,6 @@
 // A sink in memory.
 ghost use Rattle.std.specs.Prelude.{◌≡◌, ◌≤◌, ◌<◌, [], length, take, Some, is_err, IsOk, OnOk, OnErr, IfOk, vec_len, vec_capacity};
-ghost use Rattle.cts_io.specs.Device.{Rose, appended};
-ghost use Rattle.cts_io.specs.Plan.{fresh_plan};
-ghost use Rattle.cts_io.specs.MemorySink.{SinkState, is_refused, accepted, after_write};
+ghost use Rattle.cts_io.specs.Vocabulary.{Rose, appended, fresh_plan, SinkState, is_refused, accepted, after_write};
 
 use crate::device::{Failed, Sink};
 use crate::plan::Plan;

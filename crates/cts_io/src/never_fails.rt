@@ -1,9 +1,6 @@
 // Files in memory, and a sink, that never fail.
 ghost use Rattle.std.specs.Prelude.{◌≡◌, ◌≤◌, ◌<◌, ◌+◌, ℕ, List, [], ◌++◌, length, take, drop, Some, Ok, IsOk, OnOk, OnErr, IfOk, IsErrOf};
-ghost use Rattle.cts_io.specs.Device.{Rose, Takes};
-ghost use Rattle.cts_io.specs.Host.{absent};
-ghost use Rattle.cts_io.specs.MemoryInputs.{bytes_at};
-ghost use Rattle.cts_io.specs.NeverFails.{FilesState, bytes_named, fitting, none};
+ghost use Rattle.cts_io.specs.Vocabulary.{Rose, Takes, absent, bytes_at, FilesState, bytes_named, fitting, none};
 
 use crate::device::{Failed, Inputs, Sink, StartFault};
 use crate::memory_inputs::{HeldFile, left_of, place_of};

@@ -1,8 +1,7 @@
 //! Opening files by their names, tried again where a signal interrupted it.
 
 ghost use Rattle.std.specs.Prelude.{◌≡◌, ℕ, List, Result};
-ghost use Rattle.std.specs.declared.io.Error.{Error};
-ghost use Rattle.cts_io.specs.Stream.{AnswersOpen, Tried};
+ghost use Rattle.cts_io.specs.Vocabulary.{Error, AnswersOpen, Tried};
 
 use crate::device::StartFault;
 use crate::stream::ByteReader;

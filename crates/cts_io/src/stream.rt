@@ -1,10 +1,7 @@
 //! The calls on streams of std, each tried again where a signal interrupted it.
 
 ghost use Rattle.std.specs.Prelude.{◌≡◌, ◌≤◌, ◌<◌, ℕ, List, length, Option, Result, Ok, IfOk};
-ghost use Rattle.std.specs.Io.{ReadsAtMost, WritesAtMost};
-ghost use Rattle.std.specs.Io.KnownBytes.{ReadConsumes, WriteAppends};
-ghost use Rattle.std.specs.declared.io.Error.{Error};
-ghost use Rattle.cts_io.specs.Stream.{AnswersRead, AnswersWrite, Tried};
+ghost use Rattle.cts_io.specs.Vocabulary.{ReadsAtMost, WritesAtMost, ReadConsumes, WriteAppends, Error, AnswersRead, AnswersWrite, Tried};
 
 use crate::device::Failed;
 use std::io;

@@ -1,9 +1,7 @@
 //! Whole files and whole texts over devices that give and take pieces.
 
 ghost use Rattle.std.specs.Prelude.{◌≡◌, ◌≤◌, ◌<◌, ◌+◌, ◌-◌, ℕ, List, [], length, take, drop, Some, OnOk, OnErr, IfOk, IsErrOf};
-ghost use Rattle.cts_io.specs.Device.{Rose, appended, WritesPrefix};
-ghost use Rattle.cts_io.specs.declared.whole.ReadWhole.TheVariants.{NoMemory};
-ghost use Rattle.cts_io.specs.Whole.{read_fault_of};
+ghost use Rattle.cts_io.specs.Vocabulary.{Rose, appended, WritesPrefix, NoMemory, read_fault_of};
 
 use crate::device::{Failed, Inputs, Sink, StartFault};
 use std::alloc::{AllocError, Global};

@@ -7,3 +7,4 @@ pub mod Run
 pub mod Steps
 pub mod Subjects
 pub mod Told
+pub mod Vocabulary

@@ -1,20 +1,7 @@
 //! What each command answers on the circuit or the problem that its files tell.
 
 ghost use Rattle.std.specs.Prelude.{◌≡◌, ◌≤◌, ℕ, List, true, length, IfOk, IfErr};
-ghost use Rattle.cts_base.specs.Fractions.{fraction_text};
-ghost use Rattle.cts_model.specs.declared.tree.Topology.{Topology};
-ghost use Rattle.cts_model.specs.Vocabulary.{IsLoop, text_of, JoinsMoreThan, IsMarginPeriod, IsTopology};
-ghost use Rattle.command_line.specs.Commands.{is_period};
-ghost use Rattle.failure_lines.specs.declared.failure.Failure.{Failure};
-ghost use Rattle.outcomes.specs.SynthesisOutcomes.{IsOutcomeWith};
-ghost use Rattle.answer_texts.specs.CornerTexts.{IsCornersText};
-ghost use Rattle.answer_texts.specs.Endings.{ending_status};
-ghost use Rattle.answer_texts.specs.MarginTexts.{IsMarginText};
-ghost use Rattle.answer_texts.specs.PeriodTexts.{IsPeriodText};
-ghost use Rattle.answer_texts.specs.ScheduleTexts.{IsScheduleText};
-ghost use Rattle.answer_texts.specs.SynthTexts.{IsSynthText, IsEmbedText, synthesis_lines, synthesis_status};
-ghost use Rattle.answer_texts.specs.ZeroTexts.{IsZeroText};
-ghost use Rattle.cts_program.specs.Steps.{FailsCircuit};
+ghost use Rattle.cts_program.specs.Vocabulary.{fraction_text, Topology, IsLoop, text_of, JoinsMoreThan, IsMarginPeriod, IsTopology, is_period, Failure, IsOutcomeWith, IsCornersText, ending_status, IsMarginText, IsPeriodText, IsScheduleText, IsSynthText, IsEmbedText, synthesis_lines, synthesis_status, IsZeroText, FailsCircuit};
 
 use crate::reading::Corners;
 use answer_texts::{

@@ -1,13 +1,7 @@
 //! A call of the program: the name that it is called by, and the words after that.
 
 ghost use Rattle.std.specs.Prelude.{◌≡◌, ◌≢◌, ℕ, List, map, drop, true, string_bytes, IfOk, IfErr};
-ghost use Rattle.std.specs.IoError.{error_kind};
-ghost use Rattle.std.specs.Process.{exit_status};
-ghost use Rattle.failure_lines.specs.declared.failure.Failure.{Failure};
-ghost use Rattle.cts_program.specs.Answers.{is_ending};
-ghost use Rattle.failure_lines.specs.Failures.{status_of, failure_line, Reports};
-ghost use Rattle.cts_program.specs.Files.{Request, Ask, AreDenoted};
-ghost use Rattle.cts_program.specs.Run.{Ends, EndsFor, Keeps, Reported, ShowsFaults};
+ghost use Rattle.cts_program.specs.Vocabulary.{error_kind, exit_status, Failure, is_ending, status_of, failure_line, Reports, Request, Ask, AreDenoted, Ends, EndsFor, Keeps, Reported, ShowsFaults};
 
 use crate::run::run;
 use cts_io::{Inputs, Sink};

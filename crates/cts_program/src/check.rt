@@ -1,15 +1,8 @@
 //! The command `check`: whether a report, whoever made it, shows what it says.
 
 ghost use Rattle.std.specs.Prelude.{◌≡◌, ◌<◌, ℕ, length, IfOk, IfErr};
-ghost use Rattle.cts_model.specs.Vocabulary.{IsOfSize, IsWithinBounds};
-ghost use Rattle.answer_texts.specs.Endings.{ending_status};
+ghost use Rattle.cts_program.specs.Vocabulary.{IsOfSize, IsWithinBounds, ending_status, IsUnshown, IsCheckText, subject_of, OrMemory, IsRegisterReason, reported};
 ghost use Rattle.command_line.specs.declared.table.Form.TheVariants as forms;
-ghost use Rattle.cts_program.specs.Answers.{IsUnshown};
-ghost use Rattle.answer_texts.specs.CheckTexts.{IsCheckText};
-ghost use Rattle.cts_program.specs.Subjects.{subject_of};
-ghost use Rattle.cts_program.specs.Steps.{OrMemory};
-ghost use Rattle.cts_program.specs.Subjects.{IsRegisterReason};
-ghost use Rattle.cts_program.specs.Told.{reported};
 
 use crate::reading::copied;
 use answer_texts::Answer;

@@ -3,9 +3,7 @@
 
 ghost use Rattle.std.specs.Prelude.{◌≡◌, ◌≤◌, true, length};
 ghost use Rattle.command_line.specs.declared.command.Command.TheVariants as commands;
-ghost use Rattle.command_line.specs.Commands.{is_period};
-ghost use Rattle.cts_program.specs.Files.{request_of};
-ghost use Rattle.cts_program.specs.Steps.{IsServed};
+ghost use Rattle.cts_program.specs.Vocabulary.{is_period, request_of, IsServed};
 
 use crate::answers::{corners, embed, margin, period, schedule, synth, zero};
 use crate::check::check;

@@ -2,20 +2,8 @@
 //! tree is shown.
 
 ghost use Rattle.std.specs.Prelude.{◌≡◌, ◌≤◌, ◌<◌, ◌↔◌, ℕ, true, IsTrue, [], IfOk, IfErr};
-ghost use Rattle.cts_model.specs.Vocabulary.{JoinsMoreThan, IsOfSize, IsWithinBounds, IsShown};
-ghost use Rattle.cert_check.specs.Verdicts.{IsVerdict};
-ghost use Rattle.failure_lines.specs.declared.failure.Failure.{Failure};
-ghost use Rattle.outcomes.specs.SynthesisOutcomes.{BeginsLowest, IsOutcome, IsShownOutcome};
-ghost use Rattle.answer_texts.specs.Endings.{ending_status};
-ghost use Rattle.command_line.specs.Commands.{number_of, is_number_within};
+ghost use Rattle.cts_program.specs.Vocabulary.{JoinsMoreThan, IsOfSize, IsWithinBounds, IsShown, IsVerdict, Failure, BeginsLowest, IsOutcome, IsShownOutcome, ending_status, number_of, is_number_within, problem_kinds, IsAnswer, IsRefusal, IsDemoText, demo_texts, Tell, RefusesFirst, request_of, FailsCircuit, OrMemory, nothing, placed};
 ghost use Rattle.command_line.specs.declared.command.Command.TheVariants as commands;
-ghost use Rattle.cts_program.specs.Answers.{problem_kinds, IsAnswer, IsRefusal};
-ghost use Rattle.answer_texts.specs.DemoTexts.{IsDemoText};
-ghost use Rattle.cts_program.specs.DemoFiles.{demo_texts};
-ghost use Rattle.cts_program.specs.Documents.{Tell, RefusesFirst};
-ghost use Rattle.cts_program.specs.Files.{request_of};
-ghost use Rattle.cts_program.specs.Steps.{FailsCircuit, OrMemory};
-ghost use Rattle.cts_program.specs.Told.{nothing, placed};
 
 use crate::reading::{DelayTable, Document, Netlist, Placement};
 use answer_texts::{Answer, summary_text};

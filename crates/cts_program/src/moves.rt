@@ -1,14 +1,7 @@
 //! The command `moves`: how long the clock tree is, and how long after each move of a register.
 
 ghost use Rattle.std.specs.Prelude.{◌<◌, ◌^◌, All, IfOk, IfErr, OnOk, length};
-ghost use Rattle.cts_model.specs.declared.problem.Problem.{Problem};
-ghost use Rattle.cts_model.specs.Vocabulary.{JoinsMoreThan};
-ghost use Rattle.cts_model.specs.table.Tables.{IsWithin};
-ghost use Rattle.cts_engine.specs.SessionOutcomes.{IsGrid, IsSessionOf};
-ghost use Rattle.answer_texts.specs.Endings.{ending_status};
-ghost use Rattle.answer_texts.specs.MoveTexts.{IsMovesText, IsWiresText};
-ghost use Rattle.cts_program.specs.MoveSteps.{AppendsWire, IsNearMove};
-ghost use Rattle.cts_program.specs.Steps.{FailsCircuit};
+ghost use Rattle.cts_program.specs.Vocabulary.{Problem, JoinsMoreThan, IsWithin, IsGrid, IsSessionOf, ending_status, IsMovesText, IsWiresText, AppendsWire, IsNearMove, FailsCircuit};
 
 use answer_texts::Answer;
 use cts_base::{Listed, NoMemory};

@@ -1,14 +1,5 @@
 ghost use Rattle.std.specs.Prelude.{◌≡◌, ◌≢◌, ◌⊎◌, ◌↔◌, ◌<◌, ℕ, List, map, true, Some, string_bytes, IfOk, IfErr, IsErrOf};
-ghost use Rattle.cts_io.specs.Device.{Rose};
-ghost use Rattle.command_line.specs.Commands.{HasValidTables, HasValidValues};
-ghost use Rattle.failure_lines.specs.declared.failure.Failure.{Failure};
-ghost use Rattle.failure_lines.specs.declared.file_kind.FileKind.{FileKind};
-ghost use Rattle.failure_lines.specs.Failures.{status_of};
-ghost use Rattle.answer_texts.specs.Endings.{ending_status};
-ghost use Rattle.cts_program.specs.Answers.{is_ending};
-ghost use Rattle.cts_program.specs.Files.{Request, Ask, request_of, AreDenoted};
-ghost use Rattle.cts_program.specs.Run.{IsNoCommand, RefusesRequest, CannotRead, Ends, EndsFor, EndsInPart, Fails, Keeps, Reported, ShowsFaults};
-ghost use Rattle.cts_program.specs.Steps.{IsServed};
+ghost use Rattle.cts_program.specs.Vocabulary.{Rose, HasValidTables, HasValidValues, Failure, FileKind, status_of, ending_status, is_ending, Request, Ask, request_of, AreDenoted, IsNoCommand, RefusesRequest, CannotRead, Ends, EndsFor, EndsInPart, Fails, Keeps, Reported, ShowsFaults, IsServed};
 
 use crate::commands::{
     check_command, corners_command, embed_command, margin_command, moves_command, period_command,

@@ -1,9 +1,6 @@
 ghost use Rattle.std.specs.Prelude.{◌≡◌, IfOk};
-ghost use Rattle.std.specs.Option.{option_map, option_and_then};
-ghost use Rattle.toml.specs.Data.{get_member, as_table};
-ghost use Rattle.toml.specs.View.{view, table_view};
+ghost use Rattle.delay_tables.specs.Vocabulary.{option_map, option_and_then, get_member, as_table, view, table_view, texts};
 ghost use Rattle.cts_model.specs.table.TableValues as denoted;
-ghost use Rattle.delay_tables.specs.Keys.{texts};
 
 use cts_base::{Listed, Name, NoMemory};
 use std::alloc::Global;

@@ -1,7 +1,5 @@
 ghost use Rattle.std.specs.Prelude.{◌≡◌, ◌≤◌, pos, ◌*ℤ◌, ◌≤ℤ◌, nat_abs, true, min, position};
-ghost use Rattle.std.specs.List.{list_all};
-ghost use Rattle.std.specs.Char.{is_ascii_digit};
-ghost use Rattle.std.specs.Str.Parse.{digits_value};
+ghost use Rattle.delay_tables.specs.Vocabulary.{list_all, is_ascii_digit, digits_value};
 ghost use Rattle.cts_model.specs.table.TableValues as denoted;
 
 use cts_base::Fraction;

@@ -1,13 +1,7 @@
 ghost use Rattle.std.specs.Prelude.{◌≡◌, [], ◌∷◌, map, Some, IfOk, if◌then◌else◌};
-ghost use Rattle.std.specs.List.{fold, flat_map, list_any};
-ghost use Rattle.std.specs.Str.{bytes_eq};
-ghost use Rattle.std.specs.Ordering.{nat_cmp, is_lt};
-ghost use Rattle.std.specs.Cmp.Lexicographic.{slice_cmp};
-ghost use Rattle.toml.specs.View.{table_view};
+ghost use Rattle.delay_tables.specs.Vocabulary.{fold, flat_map, list_any, bytes_eq, nat_cmp, is_lt, slice_cmp, table_view, texts, keys_of, section_of, Judges};
 ghost use Rattle.cts_model.specs.table.TableKeys as tables;
 ghost use Rattle.cts_model.specs.table.TableFlaws as flaws;
-ghost use Rattle.delay_tables.specs.Keys.{texts, keys_of, section_of};
-ghost use Rattle.delay_tables.specs.Refusals.{Judges};
 
 use crate::TechFault;
 use crate::document::{dotted, table_at};

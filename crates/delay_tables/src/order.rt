@@ -1,10 +1,7 @@
 ghost use Rattle.std.specs.Prelude.{◌≡◌, false, slice_index_or};
-ghost use Rattle.toml.specs.View.{table_view};
-ghost use Rattle.cts_model.specs.Vocabulary.{place_of};
+ghost use Rattle.delay_tables.specs.Vocabulary.{table_view, place_of, texts, Judges};
 ghost use Rattle.cts_model.specs.table.TableKeys as tables;
 ghost use Rattle.cts_model.specs.table.TableFlaws as flaws;
-ghost use Rattle.delay_tables.specs.Keys.{texts};
-ghost use Rattle.delay_tables.specs.Refusals.{Judges};
 
 use crate::TechFault;
 use crate::document::{dotted, number_at, table_at};

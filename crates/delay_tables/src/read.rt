@@ -1,9 +1,6 @@
 ghost use Rattle.std.specs.Prelude.{◌≡◌, ◌≢◌, ◌⊎◌, IfOk, IfErr, IsErrAnd, IsOkUnless};
-ghost use Rattle.toml.specs.View.{table_view};
+ghost use Rattle.delay_tables.specs.Vocabulary.{table_view, IsDocument, IsDelayTable, AcceptsTable, GivesKinds, TechFault, Judges, IsUnread, RefusesTable, DenotesName};
 ghost use Rattle.cts_model.specs.table.TableFlaws as flaws;
-ghost use Rattle.cts_model.specs.table.AcceptedTables.{IsDocument, IsDelayTable, AcceptsTable, GivesKinds};
-ghost use Rattle.delay_tables.specs.declared.fault.TechFault.{TechFault};
-ghost use Rattle.delay_tables.specs.Refusals.{Judges, IsUnread, RefusesTable, DenotesName};
 
 use crate::TechFault;
 use crate::names::judge_names;

@@ -1,9 +1,8 @@
 ghost use Rattle.std.specs.Prelude.{◌≡◌, [], ◌∷◌, map, codes, None, IfOk};
-ghost use Rattle.toml.specs.View.{table_view};
+ghost use Rattle.delay_tables.specs.Vocabulary.{table_view, DenotesTable};
 ghost use Rattle.cts_model.specs.table.TableKeys as tables;
 ghost use Rattle.cts_model.specs.table.TableValues as denoted;
 ghost use Rattle.cts_model.specs.table.TableFlaws as flaws;
-ghost use Rattle.cts_model.specs.table.AcceptedTables.{DenotesTable};
 
 use crate::document::{number_at, table_at, text_at};
 use crate::fraction::lowest_terms;

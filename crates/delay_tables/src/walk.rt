@@ -1,10 +1,8 @@
 ghost use Rattle.std.specs.Prelude.{◌≡◌, [], ◌∷◌, map, true};
-ghost use Rattle.toml.specs.View.{view, table_view};
+ghost use Rattle.delay_tables.specs.Vocabulary.{view, table_view, texts, form_of, need_of, key_of, keys_of, section_of, Judges};
 ghost use Rattle.cts_model.specs.table.TableKeys as tables;
 ghost use Rattle.cts_model.specs.table.TableValues as denoted;
 ghost use Rattle.cts_model.specs.table.TableFlaws as flaws;
-ghost use Rattle.delay_tables.specs.Keys.{texts, form_of, need_of, key_of, keys_of, section_of};
-ghost use Rattle.delay_tables.specs.Refusals.{Judges};
 
 use crate::TechFault;
 use crate::document::{dotted, table_at, value_at};

@@ -1,8 +1,7 @@
 //! The pieces of a line, which are written one after the other.
 
 ghost use Rattle.std.specs.Prelude.{◌≡◌, ℕ, List, ◌++◌, ◌∷◌, [], decimal};
-ghost use Rattle.std.specs.List.{flat_map};
-ghost use Rattle.failure_lines.specs.Failures.{shown_byte, Writes};
+ghost use Rattle.failure_lines.specs.Vocabulary.{flat_map, shown_byte, Writes};
 
 use cts_base::Name;
 use cts_io::{Failed, Sink, write_whole};

@@ -2,10 +2,7 @@
 //! words.
 
 ghost use Rattle.std.specs.Prelude.{◌≡◌};
-ghost use Rattle.failure_lines.specs.declared.failure.Failure.{Failure};
-ghost use Rattle.failure_lines.specs.declared.failure.Failure.TheVariants.{NoMemory};
-ghost use Rattle.failure_lines.specs.declared.file_kind.FileKind.TheVariants.{Tech};
-ghost use Rattle.failure_lines.specs.Refusals.{words_failure_of, bench_failure_of, tech_failure_of, topology_failure_of, moves_failure_of, report_failure_of, reason_failure_of, pair_failure_of};
+ghost use Rattle.failure_lines.specs.Vocabulary.{Failure, NoMemory, Tech, words_failure_of, bench_failure_of, tech_failure_of, topology_failure_of, moves_failure_of, report_failure_of, reason_failure_of, pair_failure_of};
 
 use crate::failure::Failure::{self, Refused, Unshown};
 use crate::file_kind::FileKind::{self, Bench, Moves, Report, Topology};

@@ -1,8 +1,7 @@
 //! The words of a refusal.
 
 ghost use Rattle.std.specs.Prelude.{◌≡◌};
-ghost use Rattle.cts_model.specs.table.TableKeys.{word_of};
-ghost use Rattle.failure_lines.specs.Failures.{limit_word, number_word, words_text};
+ghost use Rattle.failure_lines.specs.Vocabulary.{word_of, limit_word, number_word, words_text};
 
 use crate::pieces::{Piece, write_each, write_number};
 use bench_reader::Which;

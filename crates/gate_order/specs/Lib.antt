@@ -1,7 +1,8 @@
-pub mod Orders
-pub mod Loops
-pub mod Grouped
-pub mod GroupParts
 pub mod GateReads
-pub mod Sorted
+pub mod GroupParts
+pub mod Grouped
 pub mod LevelParts
+pub mod Loops
+pub mod Orders
+pub mod Sorted
+pub mod Vocabulary

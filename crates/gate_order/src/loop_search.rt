@@ -1,6 +1,5 @@
 ghost use Rattle.std.specs.Prelude.{◌≡◌, ◌<◌, ◌≤◌, ◌+◌, ◌++◌, ℕ, length, take, drop, Some, slice_get, slice_index, nat_lt, find, All, Contains, IfOk};
-ghost use Rattle.cts_model.specs.Vocabulary.{IsNamedLoop, Reads};
-ghost use Rattle.gate_order.specs.Orders.{AllWait};
+ghost use Rattle.gate_order.specs.Vocabulary.{IsNamedLoop, Reads, AllWait};
 
 use cts_base::{Listed, NoMemory};
 use cts_model::Circuit;

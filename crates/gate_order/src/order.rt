@@ -1,7 +1,5 @@
 ghost use Rattle.std.specs.Prelude.{◌≡◌, ℕ, List, IfOk, IfErr, nat_lt, position};
-ghost use Rattle.cts_model.specs.Vocabulary.{IsLoop};
-ghost use Rattle.gate_order.specs.Orders.{IsTopologicalOrder};
-ghost use Rattle.gate_order.specs.Loops.{ShowsLoop};
+ghost use Rattle.gate_order.specs.Vocabulary.{IsLoop, IsTopologicalOrder, ShowsLoop};
 
 use crate::loop_search::named_loop;
 use crate::sorting::{Sorting, sorted};

@@ -1,6 +1,5 @@
 ghost use Rattle.std.specs.Prelude.{◌≡◌, ◌++◌, ◌∷◌, [], ◌<◌, ◌^◌, ◌==◌, ◌&&◌, ℕ, All, IfOk, OnOk, if◌then◌else◌, length, slice_index, count_by};
-ghost use Rattle.gate_order.specs.Sorted.{AreIdleGates, AreReleased, CanRelease, IsReleased, IsSorted};
-ghost use Rattle.gate_order.specs.GateReads.{is_gate_at};
+ghost use Rattle.gate_order.specs.Vocabulary.{AreIdleGates, AreReleased, CanRelease, IsReleased, IsSorted, is_gate_at};
 
 use crate::gate_reads::{gate_reads, is_gate_at};
 use crate::groups::Groups;

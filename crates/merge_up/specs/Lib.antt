@@ -1,5 +1,6 @@
 pub mod Distances
-pub mod Sides
-pub mod Works
-pub mod Views
 pub mod Merging
+pub mod Sides
+pub mod Views
+pub mod Vocabulary
+pub mod Works

@@ -1,6 +1,5 @@
 ghost use Rattle.std.specs.Prelude.{◌≡◌, ◌≤◌, ◌+◌, ◌-◌, ◌^◌, min, length};
-ghost use Rattle.cts_model.specs.Vocabulary.{AreTreeSinks, IsTopology};
-ghost use Rattle.merge_up.specs.Merging.{IsMerged, IsUnsettled};
+ghost use Rattle.merge_up.specs.Vocabulary.{AreTreeSinks, IsTopology, IsMerged, IsUnsettled};
 
 use crate::nodes::Nodes;
 use crate::work::Work;

@@ -1,5 +1,5 @@
 ghost use Rattle.std.specs.Prelude.{◌≡◌, ℕ, ℤ, ◌+ℤ◌, ◌∷◌, [], ◌++◌, List, Some, slice_get};
-ghost use Rattle.cts_model.specs.declared.place.Sink.{Sink};
+ghost use Rattle.merge_up.specs.Vocabulary.{Sink, IsBelow, IsMultipleOf, IsEnd, pair_of};
 
 use crate::end::End;
 use crate::side::Side;
@@ -91,8 +91,6 @@ impl Ends {
 }
 
 ghost use Rattle.std.specs.Prelude.{◌*◌, ◌^◌};
-ghost use Rattle.cts_model.specs.Vocabulary.{IsBelow, IsMultipleOf};
-ghost use Rattle.merge_up.specs.Sides.{IsEnd, pair_of};
 
 // The further of two.
 fn further(one: End, other: End) -> End

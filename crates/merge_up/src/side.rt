@@ -1,7 +1,5 @@
 ghost use Rattle.std.specs.Prelude.{◌≡◌};
-ghost use Rattle.cts_model.specs.Vocabulary.{IsTreeSink};
-ghost use Rattle.merge_up.specs.Distances.{IsFar};
-ghost use Rattle.merge_up.specs.Sides.{far_to, furthest_to};
+ghost use Rattle.merge_up.specs.Vocabulary.{IsTreeSink, IsFar, far_to, furthest_to};
 
 use crate::end::End;
 use crate::ends::Ends;

@@ -1,5 +1,6 @@
-pub mod Moves
-pub mod Taken
-pub mod Sessions
-pub mod SessionViews
 pub mod MergesAbove
+pub mod Moves
+pub mod SessionViews
+pub mod Sessions
+pub mod Taken
+pub mod Vocabulary

@@ -1,7 +1,5 @@
 ghost use Rattle.std.specs.Prelude.{◌≡◌, ◌∷◌, [], IfOk};
-ghost use Rattle.cts_model.specs.Vocabulary.{number_of};
-ghost use Rattle.move_session.specs.Moves.{fault_of, move_of, told_at};
-ghost use Rattle.name_set.specs.RegisterNames.{register_names};
+ghost use Rattle.move_session.specs.Vocabulary.{number_of, fault_of, move_of, told_at, register_names};
 ghost use Rattle.move_session.specs.declared.fault.MovesFault.TheVariants as fault;
 
 use crate::{Move, MovesFault};

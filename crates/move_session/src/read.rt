@@ -1,6 +1,5 @@
 ghost use Rattle.std.specs.Prelude.{◌≤◌, length};
-ghost use Rattle.cts_base.specs.LineFormats.{IsToldBy};
-ghost use Rattle.move_session.specs.Moves.{moves_in};
+ghost use Rattle.move_session.specs.Vocabulary.{IsToldBy, moves_in};
 
 use crate::moving::Moving;
 use crate::{Move, MovesFault};

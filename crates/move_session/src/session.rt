@@ -133,8 +133,7 @@ impl Session {
 }
 
 ghost use Rattle.std.specs.Prelude.{◌≡◌, ◌<◌, ◌^◌, length};
-ghost use Rattle.cts_model.specs.Vocabulary.{IsUvBelow, IsUvMultipleOf, AreTreeSinks, IsTreeSink};
-ghost use Rattle.move_session.specs.Sessions.{moved_sink};
+ghost use Rattle.move_session.specs.Vocabulary.{IsUvBelow, IsUvMultipleOf, AreTreeSinks, IsTreeSink, moved_sink};
 
 // A register's sink at another place.
 fn moved_sink(sinks: &[Sink], register: u32, to: Uv) -> Sink

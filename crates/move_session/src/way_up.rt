@@ -1,8 +1,5 @@
 ghost use Rattle.std.specs.Prelude.{◌≡◌, ◌<◌, ◌+◌, ◌-◌, ◌^◌, min, length};
-ghost use Rattle.cts_model.specs.Vocabulary.{AreTreeSinks, IsTopology};
-ghost use Rattle.merge_up.specs.Merging.{HoldsJoined, IsMerged};
-ghost use Rattle.merge_up.specs.Works.{IsFit};
-ghost use Rattle.move_session.specs.MergesAbove.{IsMergedBeside, IsStep, merges_above};
+ghost use Rattle.move_session.specs.Vocabulary.{AreTreeSinks, IsTopology, HoldsJoined, IsMerged, IsFit, IsMergedBeside, IsStep, merges_above};
 
 use cts_model::{Sink, Topology};
 use merge_up::Work;

@@ -1,3 +1,4 @@
-pub mod Trees
-pub mod Sources
 pub mod Descents
+pub mod Sources
+pub mod Trees
+pub mod Vocabulary

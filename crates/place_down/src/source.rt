@@ -1,8 +1,5 @@
 ghost use Rattle.std.specs.Prelude.{◌≡◌, ◌*◌, ◌^◌, ◌++◌, [], ◌∷◌, ℤ, ◌+ℤ◌, List, Some, slice_get};
-ghost use Rattle.cts_model.specs.declared.place.Sink.{Sink};
-ghost use Rattle.cts_model.specs.Vocabulary.{IsBelow, IsMultipleOf, rotated, rotated_distance, AreTreeSinks, IsTreeSink};
-ghost use Rattle.place_down.specs.Sources.{IsTop};
-ghost use Rattle.place_down.specs.Trees.{IsTreeSource};
+ghost use Rattle.place_down.specs.Vocabulary.{Sink, IsBelow, IsMultipleOf, rotated, rotated_distance, AreTreeSinks, IsTreeSink, IsTop, IsTreeSource};
 
 use cts_model::{Point, Show, Sink, Uv, manhattan};
 use tilted_rect::to_point;

@@ -1,9 +1,5 @@
 ghost use Rattle.std.specs.Prelude.{◌<◌, ◌+◌, length};
-ghost use Rattle.cts_model.specs.Vocabulary.{AreTreeSinks, IsTopology};
-ghost use Rattle.merge_up.specs.Merging.{IsMerged};
-ghost use Rattle.merge_up.specs.Works.{IsFit, IsSettled};
-ghost use Rattle.place_down.specs.Descents.{CanSettle, IsSettledBelow, StandFrom, StaysAbove};
-ghost use Rattle.place_down.specs.Trees.{HasTreeNumbers, IsPlacedTree, IsTreeSource, StaysMerged};
+ghost use Rattle.place_down.specs.Vocabulary.{AreTreeSinks, IsTopology, IsMerged, IsFit, IsSettled, CanSettle, IsSettledBelow, StandFrom, StaysAbove, HasTreeNumbers, IsPlacedTree, IsTreeSource, StaysMerged};
 
 use crate::source::top_of;
 use cts_model::{Sink, Topology, Uv, to_uv};

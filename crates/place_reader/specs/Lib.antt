@@ -2,3 +2,4 @@ pub mod Names
 pub mod Placements
 pub mod Taken
 pub mod View
+pub mod Vocabulary

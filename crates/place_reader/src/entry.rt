@@ -1,7 +1,5 @@
 ghost use Rattle.std.specs.Prelude.{◌≡◌, ◌≤◌, length, IfSome};
-ghost use Rattle.std.specs.Option.{option_map};
-ghost use Rattle.cts_model.specs.Vocabulary.{entry_of_words, is_header, is_not_blank, place_words, y_len};
-ghost use Rattle.place_reader.specs.View.{is_written, said_by};
+ghost use Rattle.place_reader.specs.Vocabulary.{option_map, entry_of_words, is_header, is_not_blank, place_words, y_len, is_written, said_by};
 
 use crate::tail::is_tail;
 use cts_base::Line;

@@ -1,6 +1,5 @@
 ghost use Rattle.std.specs.Prelude.{◌≡◌, ◌<◌, List, ℕ, [], ◌∷◌, ◌++◌, map, length, Some, slice_get, IfOk, OnOk};
-ghost use Rattle.place_reader.specs.Placements.{is_among, register_nodes, wanted_nodes};
-ghost use Rattle.place_reader.specs.Names.{AreSameNames};
+ghost use Rattle.place_reader.specs.Vocabulary.{is_among, register_nodes, wanted_nodes, AreSameNames};
 
 use cts_base::NoMemory;
 use cts_model::{Circuit, Kind};

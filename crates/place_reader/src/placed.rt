@@ -1,6 +1,5 @@
 ghost use Rattle.std.specs.Prelude.{◌≡◌, List, ℕ, [], ◌∷◌, ◌++◌, map, None, OnOk};
-ghost use Rattle.cts_model.specs.declared.place.Point.{Point};
-ghost use Rattle.place_reader.specs.Placements.{place_of};
+ghost use Rattle.place_reader.specs.Vocabulary.{Point, place_of};
 
 use cts_base::NoMemory;
 use cts_model::Point;

@@ -1,8 +1,5 @@
 ghost use Rattle.std.specs.Prelude.{◌≡◌, [], OnOk, IfOk, IfErr};
-ghost use Rattle.cts_base.specs.LineFormats.{IsFaultOf};
-ghost use Rattle.place_reader.specs.Names.{AreSameNames};
-ghost use Rattle.place_reader.specs.Placements.{entry_fault, fault_of, is_among, wanted_nodes};
-ghost use Rattle.place_reader.specs.View.{node_said, said_by};
+ghost use Rattle.place_reader.specs.Vocabulary.{IsFaultOf, AreSameNames, entry_fault, fault_of, is_among, wanted_nodes, node_said, said_by};
 ghost use Rattle.place_reader.specs.declared.fault.PlaceFault.TheVariants as fault;
 ghost use Rattle.cts_model.specs.placement.PlaceLines as format;
 

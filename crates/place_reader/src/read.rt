@@ -1,7 +1,5 @@
 ghost use Rattle.std.specs.Prelude.{◌≡◌, ◌≤◌, ◌↔◌, [], length, map};
-ghost use Rattle.cts_base.specs.LineFormats.{IsToldBy};
-ghost use Rattle.cts_model.specs.Vocabulary.{HasNoHost};
-ghost use Rattle.place_reader.specs.Placements.{place_of, places_in, points_from, register_nodes};
+ghost use Rattle.place_reader.specs.Vocabulary.{IsToldBy, HasNoHost, place_of, places_in, points_from, register_nodes};
 
 use crate::PlaceFault;
 use crate::node_names::register_node;

@@ -1,6 +1,5 @@
 ghost use Rattle.std.specs.Prelude.{◌≡◌, ◌∷◌, [], MatchOption};
-ghost use Rattle.std.specs.Str.{str_eq_ignore_ascii_case};
-ghost use Rattle.cts_model.specs.Vocabulary.{begins_with, is_orientation, part_and, is_remark, is_oriented, is_tail};
+ghost use Rattle.place_reader.specs.Vocabulary.{str_eq_ignore_ascii_case, begins_with, is_orientation, part_and, is_remark, is_oriented, is_tail};
 
 use cts_base::Words;
 

@@ -1,6 +1,5 @@
 ghost use Rattle.std.specs.Prelude.{◌≡◌, ◌^◌, All, IfOk};
-ghost use Rattle.report_text.specs.Vocabulary.{Tech, text_of, IsOfSize, IsWithinBounds, HasSmallLengths, IsBelow, IsSmallPeriod, report_lines};
-ghost use Rattle.cts_model.specs.Vocabulary.{size_prop};
+ghost use Rattle.report_text.specs.Vocabulary.{Tech, text_of, IsOfSize, IsWithinBounds, HasSmallLengths, IsBelow, IsSmallPeriod, report_lines, size_prop};
 
 use crate::timing::push_timing;
 use crate::tree::push_tree;

@@ -1,8 +1,7 @@
 //! Appending the lines of a report's tree: its merges, its nodes, and what shows their reaches.
 
 ghost use Rattle.std.specs.Prelude.{◌≡◌, ◌<◌, ◌^◌, ◌++◌, ◌∷◌, ◌≤ℤ◌, ◌<ℤ◌, [], pos, length, OnOk, slice_index_or};
-ghost use Rattle.report_text.specs.Vocabulary.{IsBelow, IsPointBelow, line_of, text_of, IsSmallWire, ShowsAmong, length_text, lines_below, merge_line_at, no_wire, node_line_at, point_words, show_words, source_line, tree_lines, wire_words, suffix, HasSmallLengths, wire_line};
-ghost use Rattle.cts_model.specs.declared.tree.Show.TheVariants.{Root};
+ghost use Rattle.report_text.specs.Vocabulary.{IsBelow, IsPointBelow, line_of, text_of, IsSmallWire, ShowsAmong, length_text, lines_below, merge_line_at, no_wire, node_line_at, point_words, show_words, source_line, tree_lines, wire_words, suffix, HasSmallLengths, wire_line, Root};
 
 use crate::line::{push_count, push_node, push_number, push_word};
 use crate::report::Printed;

@@ -1,7 +1,5 @@
 ghost use Rattle.std.specs.Prelude.{◌↔◌, IsTrue, length};
-ghost use Rattle.cts_model.specs.Vocabulary.{IsSmallConstraint, IsTight};
-ghost use Rattle.relaxation.specs.Tails.{AreByTail};
-ghost use Rattle.schedule.specs.Given.{IsGiven};
+ghost use Rattle.schedule.specs.Vocabulary.{IsSmallConstraint, IsTight, AreByTail, IsGiven};
 
 use crate::least::gains_of;
 use cts_base::Fraction;

@@ -1,2 +1,3 @@
 pub mod ListedPairs
 pub mod SpareTicks
+pub mod Vocabulary

@@ -1,8 +1,5 @@
 ghost use Rattle.std.specs.Prelude.{◌≡◌, ◌<◌, int_lt, if◌then◌else◌, length, All, MatchOption, find, slice_index_or};
-ghost use Rattle.cts_model.specs.declared.circuit.Circuit.{Circuit};
-ghost use Rattle.cts_model.specs.declared.timing.PairDelay.{PairDelay};
-ghost use Rattle.cts_model.specs.Vocabulary.{IsZeroSkew, ListsPairs, IsSmallPair, HasSmallDelays};
-ghost use Rattle.timing_report.specs.ListedPairs.{IsMostDelayed, IsZeroSkewOf};
+ghost use Rattle.timing_report.specs.Vocabulary.{Circuit, PairDelay, IsZeroSkew, ListsPairs, IsSmallPair, HasSmallDelays, IsMostDelayed, IsZeroSkewOf};
 
 use cts_base::Listed;
 use cts_model::{PairDelay, Tech, ZeroSkew};

@@ -1,10 +1,5 @@
 ghost use Rattle.std.specs.Prelude.{◌≡◌, ◌*◌, ◌^◌, ◌+ℤ◌, ◌-ℤ◌, ◌*ℤ◌, All, IfOk, Some, length};
-ghost use Rattle.std.specs.Option.{IfSome};
-ghost use Rattle.cts_model.specs.table.Tables.{IsWithin};
-ghost use Rattle.cts_model.specs.Vocabulary.{IsBelow, IsSmallPeriod, AreSlacks, AreSmallSlacks, IsSmallSlack};
-ghost use Rattle.gate_order.specs.LevelParts.{IsLevelsOf};
-ghost use Rattle.path_delays.specs.Windows.{IsWindowBelow};
-ghost use Rattle.timing_report.specs.SpareTicks.{IsSlackAt, IsTicks};
+ghost use Rattle.timing_report.specs.Vocabulary.{IfSome, IsWithin, IsBelow, IsSmallPeriod, AreSlacks, AreSmallSlacks, IsSmallSlack, IsLevelsOf, IsWindowBelow, IsSlackAt, IsTicks};
 
 use cts_base::{Fraction, Listed, NoMemory};
 use cts_model::{Circuit, Schedule, Slack, Tech};

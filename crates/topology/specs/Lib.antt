@@ -1,3 +1,4 @@
 pub mod Axes
 pub mod LiveClusters
 pub mod Pairs
+pub mod Vocabulary

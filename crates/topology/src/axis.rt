@@ -1,7 +1,5 @@
 ghost use Rattle.std.specs.Prelude.{◌≡◌};
-ghost use Rattle.cts_model.specs.Vocabulary.{IsBelow, AreTreeSinks};
-ghost use Rattle.tilted_rect.specs.Corners.{bound};
-ghost use Rattle.topology.specs.Axes.{high_on, low_on};
+ghost use Rattle.topology.specs.Vocabulary.{IsBelow, AreTreeSinks, bound, high_on, low_on};
 
 use cts_model::Sink;
 use tilted_rect::Cluster;

@@ -1,8 +1,5 @@
 ghost use Rattle.std.specs.Prelude.{◌≡◌, ◌+◌, ◌<◌, ◌^◌, List, [], length, IfOk, IfSome, IsNone};
-ghost use Rattle.cts_model.specs.declared.place.Sink.{Sink};
-ghost use Rattle.cts_model.specs.Vocabulary.{IsGreedy, AreTreeSinks};
-ghost use Rattle.topology.specs.declared.pair.Pair.{Pair};
-ghost use Rattle.topology.specs.LiveClusters.{AreKept, IsCheapestPair, IsMerging, IsPair, IsSwept};
+ghost use Rattle.topology.specs.Vocabulary.{Sink, IsGreedy, AreTreeSinks, Pair, AreKept, IsCheapestPair, IsMerging, IsPair, IsSwept};
 
 use crate::axis::Axis;
 use crate::ordered::Ordered;

@@ -1,10 +1,5 @@
 ghost use Rattle.std.specs.Prelude.{◌≡◌, ◌++◌, ◌∷◌, ◌<◌, [], All, IfSome, OnOk, length, slice_get, List, map, None, Some};
-ghost use Rattle.std.specs.List.Sorted.{IsPermutation};
-ghost use Rattle.std.specs.Option.{option_to_list};
-ghost use Rattle.std.specs.BinaryHeap.{IsHeap, heap_items};
-ghost use Rattle.std.proofs.Props.{props};
-ghost use Rattle.topology.specs.declared.pair.Pair.{Pair};
-ghost use Rattle.topology.specs.Pairs.{IsBefore, IsReplaced, by_turn};
+ghost use Rattle.topology.specs.Vocabulary.{IsPermutation, option_to_list, IsHeap, heap_items, props, Pair, IsBefore, IsReplaced, by_turn};
 
 use crate::pair::Pair;
 use cts_base::NoMemory;

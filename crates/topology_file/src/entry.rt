@@ -1,8 +1,5 @@
 ghost use Rattle.std.specs.Prelude.{◌≡◌, ◌<◌, ◌-◌, ◌^◌, [], ◌∷◌, Some, None, if◌then◌else◌};
-ghost use Rattle.std.specs.Str.Parse.{digits_value};
-ghost use Rattle.cts_base.specs.NumberTexts.{is_plain_numeral};
-ghost use Rattle.topology_file.specs.Entries.{is_entry, merge_of};
-ghost use Rattle.topology_file.specs.Kept.{kept_number, kept_merge};
+ghost use Rattle.topology_file.specs.Vocabulary.{digits_value, is_plain_numeral, is_entry, merge_of, kept_number, kept_merge};
 
 use cts_base::{Words, read_whole};
 use cts_model::Merge;

@@ -1,8 +1,5 @@
 ghost use Rattle.std.specs.Prelude.{◌≤◌, length, IfOk};
-ghost use Rattle.cts_base.specs.LineFormats.{IsToldBy};
-ghost use Rattle.cts_model.specs.Vocabulary.{IsTopology};
-ghost use Rattle.topology_file.specs.TopologyTexts.{topology_in};
-ghost use Rattle.topology_file.specs.declared.fault.TopologyFault.{TopologyFault};
+ghost use Rattle.topology_file.specs.Vocabulary.{IsToldBy, IsTopology, topology_in, TopologyFault};
 
 use crate::TopologyFault;
 use crate::joining::Joining;

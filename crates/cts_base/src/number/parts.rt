@@ -1,9 +1,5 @@
 ghost use Rattle.std.specs.Prelude.{◌≡◌, ◌+◌, ◌==◌, ◌↔◌, IsTrue, length};
-ghost use Rattle.std.specs.List.{before_first, after_first, list_all, position};
-ghost use Rattle.std.specs.Char.{is_ascii_digit};
-ghost use Rattle.std.specs.Str.Parse.{AllDigits, IsNumeral, starts_with_minus, without_leading_sign};
-ghost use Rattle.cts_base.specs.Decimals.{is_decimal, is_exponent_mark, is_marked, is_numeral, is_point, exponent, whole_digits, fraction_digits};
-ghost use Rattle.cts_base.specs.NumberParts.{HasDigits};
+ghost use Rattle.cts_base.specs.Vocabulary.{before_first, after_first, list_all, position, is_ascii_digit, AllDigits, IsNumeral, starts_with_minus, without_leading_sign, is_decimal, is_exponent_mark, is_marked, is_numeral, is_point, exponent, whole_digits, fraction_digits, HasDigits};
 
 /// The parts that the spelling of a number has.
 #[derive(Clone, Copy, Debug)]

@@ -1,8 +1,5 @@
 ghost use Rattle.std.specs.Prelude.{◌≡◌, ◌^◌, ◌≤ℤ◌, ℤ, pos, ◌↔◌, IsTrue, IfSome, IsNone, IfOk, MatchResult};
-ghost use Rattle.std.specs.List.{position};
-ghost use Rattle.std.specs.Result.{IsErrOf};
-ghost use Rattle.cts_base.specs.Fractions.{HasSizeBelow, IsLowest, fraction_text};
-ghost use Rattle.cts_base.specs.NumberTexts.{is_slash, SpellsWhole, SpellsQuotient, kept_size, HaveSmallSizes, IsNoFraction, IsLargeQuotient, RefusesFraction};
+ghost use Rattle.cts_base.specs.Vocabulary.{position, IsErrOf, HasSizeBelow, IsLowest, fraction_text, is_slash, SpellsWhole, SpellsQuotient, kept_size, HaveSmallSizes, IsNoFraction, IsLargeQuotient, RefusesFraction};
 
 use crate::fraction::Fraction;
 use crate::number::NumberFault;

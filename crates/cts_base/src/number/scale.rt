@@ -1,7 +1,5 @@
 ghost use Rattle.std.specs.Prelude.{◌≡◌, ◌+◌, ◌*◌, ◌^◌, ◌<◌, ◌≤◌, ◌==◌, ◌++◌, min, length, drop, take};
-ghost use Rattle.std.specs.List.{list_all};
-ghost use Rattle.std.specs.Str.Parse.{AllDigits, digits_value, digits_value_after};
-ghost use Rattle.cts_base.specs.Decimals.{is_zero};
+ghost use Rattle.cts_base.specs.Vocabulary.{list_all, AllDigits, digits_value, digits_value_after, is_zero};
 
 /// One millionth past the greatest size: what grows beyond it is kept there.
 pub const CEILING: u128 = 1_000_000_000_000_001;

@@ -1,7 +1,5 @@
 ghost use Rattle.std.specs.Prelude.{◌≡◌, ◌+◌, ◌-◌, ◌≤◌, if◌then◌else◌, ◌^◌, min, IfOk};
-ghost use Rattle.std.specs.Str.Parse.{AllDigits, digits_value, without_leading_sign};
-ghost use Rattle.cts_base.specs.Decimals.{size_of};
-ghost use Rattle.cts_base.specs.NumberParts.{HasDigits};
+ghost use Rattle.cts_base.specs.Vocabulary.{AllDigits, digits_value, without_leading_sign, size_of, HasDigits};
 
 use crate::number::NumberFault;
 use crate::number::parts::{begins_with_minus, parts_of, without_sign};

@@ -1,6 +1,5 @@
 ghost use Rattle.std.specs.Prelude.{◌≡◌, ◌^◌, ◌≤◌, ℤ, pos, neg_ℤ, ◌↔◌, IsTrue, IfSome, IsNone, min};
-ghost use Rattle.std.specs.Str.Parse.{digits_value};
-ghost use Rattle.cts_base.specs.NumberTexts.{IsPlainNumeral, SpellsWhole, kept_size};
+ghost use Rattle.cts_base.specs.Vocabulary.{digits_value, IsPlainNumeral, SpellsWhole, kept_size};
 
 use crate::number::parts::{begins_with_minus, is_numeral, without_sign};
 use crate::number::scale::number_after;

@@ -1,8 +1,6 @@
 //! What the files of a command tell: a circuit and its delays.
 
-ghost use Rattle.cts_program.specs.Files.{circuit_files};
-ghost use Rattle.cts_program.specs.Steps.{AreRead, AreServed, AreUnread, IsStep};
-ghost use Rattle.cts_program.specs.Told.{timed};
+ghost use Rattle.cts_program.specs.Vocabulary.{circuit_files, AreRead, AreServed, AreUnread, IsStep, timed};
 ghost use Rattle.std.specs.Prelude.{IfOk};
 
 use crate::reading::document::read_document;

@@ -1,10 +1,8 @@
 //! What the files of several corners tell: a circuit, and the delays of each corner.
 
 ghost use Rattle.std.specs.Prelude.{◌≡◌, ◌≤◌, ◌∷◌, ℕ, List, length, map, string_bytes, IfOk};
-ghost use Rattle.cts_model.specs.Vocabulary.{IsLoop};
+ghost use Rattle.cts_program.specs.Vocabulary.{IsLoop, corner_files, AreUnread, IsStep, TellCorners};
 ghost use Rattle.failure_lines.specs.declared.file_kind.FileKind.TheVariants as kinds;
-ghost use Rattle.cts_program.specs.Files.{corner_files};
-ghost use Rattle.cts_program.specs.Steps.{AreUnread, IsStep, TellCorners};
 
 use crate::reading::document::read_document;
 use crate::reading::documents::{CornerTable, Netlist};

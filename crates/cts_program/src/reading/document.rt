@@ -1,12 +1,7 @@
 //! A kind of file that a command reads, and reading one.
 
 ghost use Rattle.std.specs.Prelude.{◌≡◌, ◌⊎◌, ℕ, List, IfOk, IfErr};
-ghost use Rattle.failure_lines.specs.declared.failure.Failure.{Failure};
-ghost use Rattle.failure_lines.specs.declared.file_kind.FileKind.{FileKind};
-ghost use Rattle.cts_program.specs.Documents.{Means, Refuses};
-ghost use Rattle.cts_program.specs.Files.{IsShortFile};
-ghost use Rattle.cts_program.specs.Steps.{IsRead, IsStep, IsUnread, OrMemory};
-ghost use Rattle.cts_program.specs.Told.{Told};
+ghost use Rattle.cts_program.specs.Vocabulary.{Failure, FileKind, Means, Refuses, IsShortFile, IsRead, IsStep, IsUnread, OrMemory, Told};
 
 use cts_io::{Inputs, ReadWhole, read_whole};
 use failure_lines::{Failure, FileKind};

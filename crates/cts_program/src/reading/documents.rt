@@ -1,12 +1,8 @@
 //! The kinds of files that commands read.
 
 ghost use Rattle.std.specs.Prelude.{◌≡◌, ◌++◌, ◌∷◌, [], ℕ, IsTrue, List, length, All};
-ghost use Rattle.cts_model.specs.Vocabulary.{IsTopology, IsOfSize, IsWithinBounds};
+ghost use Rattle.cts_program.specs.Vocabulary.{IsTopology, IsOfSize, IsWithinBounds, IsNearMove, DiffersFromFirst, AreServed, IsBare, nothing, bare, timed, placed, reported, joined, moving};
 ghost use Rattle.failure_lines.specs.declared.file_kind.FileKind.TheVariants as kinds;
-ghost use Rattle.cts_program.specs.MoveSteps.{IsNearMove};
-ghost use Rattle.cts_program.specs.Documents.{DiffersFromFirst};
-ghost use Rattle.cts_program.specs.Steps.{AreServed, IsBare};
-ghost use Rattle.cts_program.specs.Told.{nothing, bare, timed, placed, reported, joined, moving};
 
 use crate::reading::document::Document;
 use crate::reading::placement::placement_failure;

@@ -4,8 +4,7 @@ ghost use Rattle.std.specs.Prelude.{◌≡◌, ◌<◌, ℕ, length, IfOk};
 ghost use Rattle.failure_lines.specs.declared.failure.Failure.TheVariants as failures;
 ghost use Rattle.failure_lines.specs.declared.file_kind.FileKind.TheVariants as kinds;
 ghost use Rattle.failure_lines.specs.declared.words.Words.TheVariants as words;
-ghost use Rattle.failure_lines.specs.Refusals.{place_failure_of};
-ghost use Rattle.cts_program.specs.Steps.{OrMemory};
+ghost use Rattle.cts_program.specs.Vocabulary.{place_failure_of, OrMemory};
 
 use cts_base::{Listed, Name, NoMemory};
 use cts_model::Circuit;

@@ -1,8 +1,6 @@
 //! What the files of a command tell: a problem.
 
-ghost use Rattle.cts_program.specs.Files.{problem_files};
-ghost use Rattle.cts_program.specs.Steps.{AreRead, AreUnread, IsStep};
-ghost use Rattle.cts_program.specs.Told.{placed};
+ghost use Rattle.cts_program.specs.Vocabulary.{problem_files, AreRead, AreUnread, IsStep, placed};
 
 use crate::reading::circuit::read_circuit;
 use crate::reading::document::read_document;

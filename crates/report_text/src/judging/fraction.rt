@@ -1,6 +1,5 @@
 ghost use Rattle.std.specs.Prelude.{◌≡◌, ◌↔◌, codes, IfErr, IfOk, IsTrue, MatchOption, pos, ◌≤ℤ◌, ◌<ℤ◌, ◌*ℤ◌, ◌^◌, int_div, int_rem, nat_abs};
-ghost use Rattle.report_text.specs.Vocabulary.{fraction_text, quotient_text, HaveSmallSizes, SpellsQuotient, Circuit, IsBelow, slack_text, IsSmallPeriod, IsSmallSlack, AreSteps, WordHasFlaw, HasStepsFlaw, IsBetween, IsNegativeQuotient, IsRefusedFor, flaw_in};
-ghost use Rattle.report_text.specs.LineFields.{Period, Slack, Steps};
+ghost use Rattle.report_text.specs.Vocabulary.{fraction_text, quotient_text, HaveSmallSizes, SpellsQuotient, Circuit, IsBelow, slack_text, IsSmallPeriod, IsSmallSlack, AreSteps, WordHasFlaw, HasStepsFlaw, IsBetween, IsNegativeQuotient, IsRefusedFor, flaw_in, Period, Slack, Steps};
 
 use crate::field::Flaw;
 use cts_base::{Fraction, NumberFault, Quotient, read_fraction, read_quotient};

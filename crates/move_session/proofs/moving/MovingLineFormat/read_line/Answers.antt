@@ -4,7 +4,7 @@ use Rattle.move_session.proofs.moving.MovingLineFormat.read_line.Goals as goal
 
 pub returns-clause-flawless : goal.returns-clause-flawless
 returns-clause-flawless c start earlier has number =
-    let read = sym c.words.ensures ∙ c.in-Some.ensures.steps in
+    let read = sym c.words-words.ensures ∙ c.in-Some.ensures.steps in
     let room : length c.args.self.now.moves < 10000 =
     omega (arith, c.if-len-ge-MAX_MOVES.false, c.len.ensures) in (
       move_flawless start c.args.self.now earlier c.args.line.text.now c.in-Some.name.now

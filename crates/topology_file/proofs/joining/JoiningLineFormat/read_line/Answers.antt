@@ -7,7 +7,7 @@ pub returns-then-not-has_open-clause-flawed : goal.returns-then-not-has_open-cla
 returns-then-not-has_open-clause-flawed c start earlier has number =
     inl (not_open start.sinks c.args.self.now earlier c.args.line.text.now c.args.line.number has
     number _
-    (sym c.words.ensures ∙ c.in-Some.ensures.steps) (written c.in-Some.made.now _)
+    (sym c.words-words.ensures ∙ c.in-Some.ensures.steps) (written c.in-Some.made.now _)
     c.in-Some-due_node.due c.in-Some-due_node.ensures c.in-Some-merge_of.merge
     c.in-Some-merge_of.ensures (search rules))
 
@@ -15,6 +15,6 @@ pub returns-clause-flawless : goal.returns-clause-flawless
 returns-clause-flawless c start earlier has number =
     merge_taken start.sinks c.args.self.now earlier c.args.line.text.now c.args.line.number has
     number _
-    (sym c.words.ensures ∙ c.in-Some.ensures.steps) (written c.in-Some.made.now _)
+    (sym c.words-words.ensures ∙ c.in-Some.ensures.steps) (written c.in-Some.made.now _)
     c.in-Some-due_node.due c.in-Some-due_node.ensures c.in-Some-merge_of.merge
     c.in-Some-merge_of.ensures (search rules) c.join.new.self c.in_ok-join.ensures
