@@ -1,11 +1,10 @@
 -- Arrivals that can be printed.
 use Rattle.answer_texts.proofs.Vocabulary.{◌≡◌, ◌^◌, ℤ, arith, ints, All-weaker, Fraction, Schedule, AreSmallCommonTimes, CanPrint}
-use Rattle.cts_base.specs.Fractions.{HasSizeBelow}
-use Rattle.cts_model.specs.Vocabulary.{IsBelow}
+use Rattle.cts_base.specs.Fractions.{IsBelow}
 use Rattle.safety_margin.specs.SparingSchedules.{IsSmallSparing}
 
 -- what is below 2^93 is below 10^37
-printable : (number : ℤ) → IsBelow (2 ^ 93) number → HasSizeBelow (10 ^ 37) number
+printable : (number : ℤ) → IsBelow (2 ^ 93) number → IsBelow (10 ^ 37) number
 printable number low = record {
   above = omega (arith, ints, low.above);
   below = omega (arith, ints, low.below);
@@ -19,7 +18,7 @@ small_can_print schedule small = record {
     above = omega (arith, ints, small.some_den);
     below = omega (arith, ints, small.low_den);
   };
-  arrivals = All-weaker (IsBelow (2 ^ 93)) (HasSizeBelow (10 ^ 37)) printable schedule.at
+  arrivals = All-weaker (IsBelow (2 ^ 93)) (IsBelow (10 ^ 37)) printable schedule.at
       small.arrivals;
 }
 
@@ -35,7 +34,7 @@ common_can_print period schedule small den =
         above = omega (arith, ints, den, some);
         below = omega (arith, ints, den, low);
       };
-      arrivals = All-weaker (IsBelow (10 ^ 19)) (HasSizeBelow (10 ^ 37)) (λ arrival is. record {
+      arrivals = All-weaker (IsBelow (10 ^ 19)) (IsBelow (10 ^ 37)) (λ arrival is. record {
         above = omega (arith, ints, is.above);
         below = omega (arith, ints, is.below);
       }) schedule.at small.arrivals;

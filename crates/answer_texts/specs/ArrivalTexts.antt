@@ -1,7 +1,7 @@
 -- The lines of a schedule alone: when the clock is to reach each register. Fishburn, "Clock Skew
 -- Optimization", 1990.
 use Rattle.std.specs.Prelude.{◌^◌, ℕ, pos, ◌≤ℤ◌, List, [], ◌∷◌, All, length, replicate, codes}
-use Rattle.cts_base.specs.Fractions.{HasSizeBelow, quotient_text}
+use Rattle.cts_base.specs.Fractions.{IsBelow, quotient_text}
 use Rattle.answer_texts.specs.Types.{Circuit, Schedule}
 use Rattle.cts_model.specs.Vocabulary.{register_name, Words, count_line, lines_below, arrival_of}
 
@@ -23,5 +23,5 @@ all_at_zero registers = record { den = pos 1; at = replicate registers (pos 0) }
 -- arrivals and a denominator from 1 on that can be brought to lowest terms
 pub record CanPrint (schedule : Schedule) : Type 0 where
   pub some_den : pos 1 ≤ℤ schedule.den
-  pub small_den : HasSizeBelow (10 ^ 37) schedule.den
-  pub arrivals : All (HasSizeBelow (10 ^ 37)) schedule.at
+  pub small_den : IsBelow (10 ^ 37) schedule.den
+  pub arrivals : All (IsBelow (10 ^ 37)) schedule.at

@@ -1,5 +1,5 @@
 ghost use Rattle.std.specs.Prelude.{◌≡◌, ◌↔◌, IfOk};
-ghost use Rattle.cert_check.specs.Vocabulary.{IsOfSize, IsWithinBounds, ShowsWhatItSays, IsShown, ShowsLeast, cycle_of, IsLevelsOf, Verdict, Decides, HasPaths, HasSlacks, JudgedTree, IsVerdict, IsVerdictBy};
+ghost use Rattle.cert_check.specs.Vocabulary.{IsOfSize, IsWithinBounds, ShowsWhatItSays, IsShown, ShowsLeast, cycle_of, Verdict, Decides, HasPaths, HasSlacks, JudgedTree, IsVerdict, IsVerdictBy};
 
 use crate::Verdict;
 use crate::judge::Judge;
@@ -7,7 +7,7 @@ use crate::shaped::ShapedTree;
 use crate::verdict::Stop;
 use cts_base::NoMemory;
 use cts_model::{Constraint, Grid, PeriodShow, Problem, Report, Slack, laws};
-use gate_order::{LevelFault, Levels, levels};
+use gate_order::levels_of;
 use path_delays::Paths;
 use std::alloc::Global;
 use timing_report::slacks;
@@ -36,7 +36,7 @@ pub fn check(alloc: Global, problem: &Problem, report: &Report) -> Result<Verdic
     laws::reports();
     let (circuit, tech) = (&problem.circuit, &problem.tech);
     let schedule = &report.schedule;
-    let levels = levels_of(alloc, problem)?;
+    let levels = levels_of(alloc, circuit)?;
     let grid = Grid {
         period: report.period,
         tech,
@@ -93,17 +93,6 @@ fn judge_tree(alloc: Global, tree: &ShapedTree) -> Result<(), Stop>
     tree.judge_skews(alloc)?;
     tree.judge_reaches()?;
     tree.judge.judge_total()
-}
-
-// The gates of a problem, each after those that it reads.
-fn levels_of(alloc: Global, problem: &Problem) -> Result<Levels, NoMemory>
-    ensures { IfOk result (IsLevelsOf problem.now.circuit) }
-{
-    match levels(alloc, &problem.circuit) {
-        Ok(levels) => Ok(levels),
-        Err(LevelFault::Loop(_)) => unreachable!(),
-        Err(LevelFault::NoMemory) => Err(NoMemory),
-    }
 }
 
 // The constraints of the cycle that is shown, and none for the floor.

@@ -9,7 +9,7 @@ use Rattle.std.proofs.lemmas.Fmt.{decimal_is_IsNumeral_wide}
 use Rattle.std.proofs.lemmas.Int.{ints}
 use Rattle.std.proofs.lemmas.List.FromFn.{get_or-range_with_len, length-range_with_len}
 use Rattle.cts_base.specs.declared.fraction.Fraction.{Fraction}
-use Rattle.cts_base.specs.Fractions.{HasSizeBelow, divisor_up_to, fraction_text, quotient_text}
+use Rattle.cts_base.specs.Fractions.{IsBelow, divisor_up_to, fraction_text, quotient_text}
 use Rattle.cts_base.proofs.GreatestDivisors.{quotient_text_is, up_to_second}
 use Rattle.cts_base.proofs.OneNumberText.{AreDigits, decimal_digits}
 use Rattle.cts_base.proofs.Quotients.{lowest_quotients}
@@ -147,7 +147,7 @@ period_passes word period within spelled =
 
 -- its numbers are small
 pub small_period : (period : Fraction) → IsMarginPeriod period
-    → HasSizeBelow (10 ^ 37) period.num × HasSizeBelow (10 ^ 37) period.den
+    → IsBelow (10 ^ 37) period.num × IsBelow (10 ^ 37) period.den
 small_period period within = (
   record {
     above = omega (arith, ints, within.from_zero);
@@ -195,8 +195,8 @@ period_first word passes =
 
 -- the word spells no small fraction but those with this property
 abbrev pub SpellsOnly : (Fraction → Type 0) → Word → Type 0
-SpellsOnly Has word = (period : Fraction) → HasSizeBelow (10 ^ 37) period.num
-    → HasSizeBelow (10 ^ 37) period.den → word ≡ fraction_text period.num period.den → Has period
+SpellsOnly Has word = (period : Fraction) → IsBelow (10 ^ 37) period.num
+    → IsBelow (10 ^ 37) period.den → word ≡ fraction_text period.num period.den → Has period
 
 -- so it is with the period of a word that passes
 pub period_has : (Has : Fraction → Type 0) (word : Word) → SpellsOnly Has word

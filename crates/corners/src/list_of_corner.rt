@@ -1,26 +1,13 @@
-ghost use Rattle.std.specs.Prelude.{◌≤◌, ℕ, List, IfOk, IfErr, length};
-ghost use Rattle.corners.specs.Vocabulary.{JoinsMoreThan, IsLoop, IsLevelsOf, ShowsTooMany, AreCommonConstraints, AreConstraintsBy};
+ghost use Rattle.std.specs.Prelude.{◌≤◌, IfOk, IfErr, length};
+ghost use Rattle.corners.specs.Vocabulary.{JoinsMoreThan, IsLevelsOf, ShowsTooMany, AreCommonConstraints, AreConstraintsBy};
 
 use crate::Combined;
 use constraints::constraints_of;
 use cts_base::Listed;
 use cts_model::{Circuit, Constraint, Tech};
-use gate_order::{LevelFault, Levels, levels};
+use gate_order::Levels;
 use path_delays::{PairFault, pair_delays};
 use std::alloc::Global;
-
-/// The gates of a circuit, each after those that it reads.
-pub(crate) fn levels_of(alloc: Global, circuit: &Circuit) -> Result<Levels, PairFault>
-    requires { (loop : List ℕ) → IsLoop circuit.now.signals loop → ⊥ }
-    ensures ok { IfOk result (IsLevelsOf circuit.now) }
-    ensures many { IfErr result (ShowsTooMany circuit.now) }
-{
-    match levels(alloc, circuit) {
-        Ok(levels) => Ok(levels),
-        Err(LevelFault::Loop(_)) => unreachable!(),
-        Err(LevelFault::NoMemory) => Err(PairFault::NoMemory),
-    }
-}
 
 /// What the tables of several corners ask together. The delays of a corner are dropped before those
 /// of the next are found, so it takes memory for two lists whatever the number of corners.

@@ -2,10 +2,11 @@ ghost use Rattle.std.specs.Prelude.{◌≤◌, ◌↔◌, ℕ, List, IfOk, IfErr
 ghost use Rattle.corners.specs.Vocabulary.{JoinsMoreThan, IsLoop, IsSmallFloor, ShowsTooMany, HasNoCommonPeriod, AreCommonConstraints, IsGreatestOf, HasLowestFirst, HasSmallCommonTimes, IsCornersOutcome, IsNeverCommon};
 
 use crate::Combined;
-use crate::list_of_corner::{combined_by, levels_of};
+use crate::list_of_corner::combined_by;
 use critical_cycle::{Period, least_period};
 use cts_base::{Fraction, Listed, NoMemory};
 use cts_model::{Circuit, Constraint, PeriodShow, Schedule, Tech};
+use gate_order::levels_of;
 use path_delays::PairFault;
 use schedule::least_schedule;
 use std::alloc::Global;

@@ -1,5 +1,5 @@
 -- What is read of a fraction's text, and why one is refused: a text has one fraction or one fault.
-use Rattle.cts_base.proofs.Vocabulary.{◌≡◌, ◌<◌, ◌^◌, ◌↔◌, ℕ, ℤ, pos, negsuc, ◌*ℤ◌, ◌≤ℤ◌, nat_abs, inl, inr, List, Result, Ok, Err, IfOk, MatchResult, of_z, to_z, refl, sym, ap, ◌∙◌, subst, arith, w128, ints, IsErrOf, HasSizeBelow, IsLowest, fraction_text, SpellsQuotient, kept_size, HaveSmallSizes, IsLargeQuotient, IsNoFraction, RefusesFraction, Fraction, NumberFault, NotNumber, TooFine, TooLarge}
+use Rattle.cts_base.proofs.Vocabulary.{◌≡◌, ◌<◌, ◌^◌, ◌↔◌, ℕ, ℤ, pos, negsuc, ◌*ℤ◌, ◌≤ℤ◌, nat_abs, inl, inr, List, Result, Ok, Err, IfOk, MatchResult, of_z, to_z, refl, sym, ap, ◌∙◌, subst, arith, w128, ints, IsErrOf, IsBelow, IsLowest, fraction_text, SpellsQuotient, kept_size, HaveSmallSizes, IsLargeQuotient, IsNoFraction, RefusesFraction, Fraction, NumberFault, NotNumber, TooFine, TooLarge}
 use Rattle.std.proofs.Props.{props}
 use Rattle.cts_base.proofs.GreatestDivisors.{same_factor}
 use Rattle.cts_base.proofs.OneNumberText.{one_fraction_text}
@@ -34,24 +34,24 @@ same_fraction fraction other num den =
 -- ---- small numbers
 
 -- a number below 10^37 in size has no more than 64 digits
-pub few_digits : (n : ℤ) → HasSizeBelow (10 ^ 37) n → nat_abs n < 10 ^ 64
+pub few_digits : (n : ℤ) → IsBelow (10 ^ 37) n → nat_abs n < 10 ^ 64
 few_digits (pos n) small = let below = small.below in omega (arith, ints, below)
 few_digits (negsuc n) small = let above = small.above in omega (arith, ints, above)
 
 -- it is kept as it is
-pub kept_same : (n : ℤ) → HasSizeBelow (10 ^ 37) n → kept_size n ≡ n
+pub kept_same : (n : ℤ) → IsBelow (10 ^ 37) n → kept_size n ≡ n
 kept_same (pos n) small = let below = small.below in omega (arith, ints, below)
 kept_same (negsuc n) small = let above = small.above in omega (arith, ints, above)
 
 -- an i128 holds it
-pub held_same : (n : ℤ) → HasSizeBelow (10 ^ 37) n → to_z w128 (of_z w128 n) ≡ n
+pub held_same : (n : ℤ) → IsBelow (10 ^ 37) n → to_z w128 (of_z w128 n) ≡ n
 held_same n small =
     let above = small.above in
     let below = small.below in
     omega (arith, ints, above, below)
 
 -- and what is kept so is such a number
-pub kept_small : (n : ℤ) → HasSizeBelow (10 ^ 37) (kept_size n) → HasSizeBelow (10 ^ 37) n
+pub kept_small : (n : ℤ) → IsBelow (10 ^ 37) (kept_size n) → IsBelow (10 ^ 37) n
 kept_small (pos n) small =
     let below = small.below in
     record { above = omega (arith, ints); below = omega (arith, ints, below) }
@@ -85,8 +85,8 @@ small_is : (text : List ℕ) (num den : ℤ) → SpellsQuotient text num den →
 small_is text num den spells small (num', den', spells', large) =
     let both = one_quotient text num den num' den' spells spells' in
     large (
-      subst (λ n. HasSizeBelow (10 ^ 37) n) both.0 small.0,
-      subst (λ n. HasSizeBelow (10 ^ 37) n) both.1 small.1,
+      subst (λ n. IsBelow (10 ^ 37) n) both.0 small.0,
+      subst (λ n. IsBelow (10 ^ 37) n) both.1 small.1,
     )
 
 -- no text is refused for both
@@ -125,8 +125,8 @@ judged_ok text (Err fault) denoted = tt
 
 -- and what is spelled so is read
 pub judged_spelled : (text : List ℕ) (r : Result Fraction NumberFault) → IsJudged text r
-    → (fraction : Fraction) → HasSizeBelow (10 ^ 37) fraction.num
-    → HasSizeBelow (10 ^ 37) fraction.den → text ≡ fraction_text fraction.num fraction.den
+    → (fraction : Fraction) → IsBelow (10 ^ 37) fraction.num
+    → IsBelow (10 ^ 37) fraction.den → text ≡ fraction_text fraction.num fraction.den
     → r ≡ Ok fraction
 judged_spelled text r denoted fraction small small' same =
     let lowest = fraction.lowest in
@@ -161,16 +161,16 @@ one_spelled_fraction fraction other small small' same =
 pub spelled_small : (num den num' den' : ℤ) → num' ≡ kept_size num → den' ≡ kept_size den
     → HaveSmallSizes num' den' → HaveSmallSizes num den × (num' ≡ num) × (den' ≡ den)
 spelled_small num den num' den' is is' small =
-    let first = kept_small num (subst (λ n. HasSizeBelow (10 ^ 37) n) is small.0) in
-    let second = kept_small den (subst (λ n. HasSizeBelow (10 ^ 37) n) is' small.1) in
+    let first = kept_small num (subst (λ n. IsBelow (10 ^ 37) n) is small.0) in
+    let second = kept_small den (subst (λ n. IsBelow (10 ^ 37) n) is' small.1) in
     ((first, second), is ∙ kept_same num first, is' ∙ kept_same den second)
 
 pub spelled_large : (num den num' den' : ℤ) → num' ≡ kept_size num → den' ≡ kept_size den
     → (HaveSmallSizes num' den' → ⊥) → HaveSmallSizes num den → ⊥
 spelled_large num den num' den' is is' large small =
     large (
-      subst (λ n. HasSizeBelow (10 ^ 37) n) (sym (is ∙ kept_same num small.0)) small.0,
-      subst (λ n. HasSizeBelow (10 ^ 37) n) (sym (is' ∙ kept_same den small.1)) small.1,
+      subst (λ n. IsBelow (10 ^ 37) n) (sym (is ∙ kept_same num small.0)) small.0,
+      subst (λ n. IsBelow (10 ^ 37) n) (sym (is' ∙ kept_same den small.1)) small.1,
     )
 
 -- a fraction of the numbers that are read

@@ -25,7 +25,7 @@ pub use mir.Syntax.{w128}
 unfoldable pub use Rattle.cts_base.specs.Decimals.{is_fine_enough, micros_of, micros_size, size_of, digits, exponent_size, raised, lowered}
 pub use Rattle.cts_base.specs.Decimals.{is_point, is_exponent_mark, coefficient, whole_digits, fraction_digits, is_zero, is_decimal, signed, exponent}
 unfoldable pub use Rattle.cts_base.specs.Fractions.{quotient_text}
-pub use Rattle.cts_base.specs.Fractions.{HasSizeBelow, IsLowest, fraction_text, divisor_up_to}
+pub use Rattle.cts_base.specs.Fractions.{IsBelow, IsLowest, fraction_text, divisor_up_to}
 pub use Rattle.cts_base.specs.LineFormats.{first_fault, first_fault_after, IsToldBy}
 pub use Rattle.cts_base.specs.Lines.{lines_of, numbered_lines, is_line_feed, without_empty_last}
 pub use Rattle.cts_base.specs.NumberTexts.{SpellsQuotient, kept_size, HaveSmallSizes, IsLargeQuotient, IsNoFraction, RefusesFraction, IsPlainNumeral, SpellsWhole, is_plain_numeral, is_slash}

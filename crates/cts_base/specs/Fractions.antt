@@ -6,7 +6,7 @@ use Rattle.std.specs.Int.{IsGcd}
 use Rattle.std.specs.Ordering.{int_eq}
 
 -- the size of the number is below the bound
-pub record HasSizeBelow (bound : ℕ) (number : ℤ) : Type 0 where
+pub record IsBelow (bound : ℕ) (number : ℤ) : Type 0 where
   pub above : neg_ℤ (pos bound) <ℤ number
   pub below : number <ℤ pos bound
 

@@ -5,7 +5,7 @@ use Rattle.std.specs.Prelude.{◌≡◌, ℕ, suc, ◌^◌, min, Bool, not, ◌=
 use Rattle.std.specs.Char.{is_ascii_digit}
 use Rattle.std.specs.List.{list_all}
 use Rattle.std.specs.Str.Parse.{IsNumeral, digits_value, starts_with_minus}
-use Rattle.cts_base.specs.Fractions.{HasSizeBelow, IsLowest}
+use Rattle.cts_base.specs.Fractions.{IsBelow, IsLowest}
 use Rattle.cts_base.specs.declared.number.NumberFault.{NumberFault}
 use Rattle.cts_base.specs.declared.number.NumberFault.TheVariants.{NotNumber, TooFine, TooLarge}
 
@@ -52,7 +52,7 @@ kept_size (negsuc less) = neg_ℤ (pos (min (suc less) (10 ^ 37)))
 
 -- both numbers are below 10^37 in size
 abbrev pub HaveSmallSizes : (num den : ℤ) → Type 0
-HaveSmallSizes num den = HasSizeBelow (10 ^ 37) num × HasSizeBelow (10 ^ 37) den
+HaveSmallSizes num den = IsBelow (10 ^ 37) num × IsBelow (10 ^ 37) den
 
 -- the text has the form of a quotient, and one of its numbers is 10^37 or more in size
 abbrev pub IsLargeQuotient : List ℕ → Type 0

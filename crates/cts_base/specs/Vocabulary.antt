@@ -7,7 +7,7 @@ pub use Rattle.std.specs.Result.{IsErrOf}
 pub use Rattle.std.specs.Str.Lines.{strip_carriage_return}
 pub use Rattle.std.specs.Str.Parse.{AllDigits, IsNumeral, starts_with_minus, without_leading_sign, digits_value, digits_value_after}
 pub use Rattle.cts_base.specs.Decimals.{is_decimal, is_exponent_mark, is_marked, is_numeral, is_point, exponent, whole_digits, fraction_digits, is_zero, size_of}
-pub use Rattle.cts_base.specs.Fractions.{HasSizeBelow, IsLowest, fraction_text, quotient_text}
+pub use Rattle.cts_base.specs.Fractions.{IsBelow, IsLowest, fraction_text, quotient_text}
 pub use Rattle.cts_base.specs.LineFormats.{first_fault, IsFaultOf}
 pub use Rattle.cts_base.specs.Lines.{lines_of, is_line_feed, numbered_lines}
 pub use Rattle.cts_base.specs.NumberParts.{HasDigits}

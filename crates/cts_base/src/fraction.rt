@@ -1,5 +1,5 @@
 ghost use Rattle.std.specs.Prelude.{◌≡◌, ◌≤◌, ◌^◌, ◌∷◌, ◌++◌, length, pos, ◌*ℤ◌, ◌≤ℤ◌, nat_abs, OnOk, OnErr};
-ghost use Rattle.cts_base.specs.Vocabulary.{IsGcd, HasSizeBelow, IsLowest, fraction_text, quotient_text};
+ghost use Rattle.cts_base.specs.Vocabulary.{IsGcd, IsBelow, IsLowest, fraction_text, quotient_text};
 
 use crate::NoMemory;
 use crate::divisor::gcd;
@@ -19,8 +19,8 @@ impl Fraction {
     /// The fraction of a numerator and a denominator. It takes no memory.
     pub fn of(num: i128, den: i128) -> Fraction
         requires some_den { pos 1 ≤ℤ den }
-        requires small_num { HasSizeBelow (10 ^ 37) num }
-        requires small_den { HasSizeBelow (10 ^ 37) den }
+        requires small_num { IsBelow (10 ^ 37) num }
+        requires small_den { IsBelow (10 ^ 37) den }
         ensures value { (result.num *ℤ den) ≡ (num *ℤ result.den) }
         ensures num { nat_abs result.num ≤ nat_abs num }
         ensures den { result.den ≤ℤ den }
@@ -48,10 +48,10 @@ impl Fraction {
 
     /// Whether the fraction is less than another. It takes no memory.
     pub fn less(self, other: Fraction) -> bool
-        requires num { HasSizeBelow (10 ^ 18) self.num }
-        requires den { HasSizeBelow (10 ^ 18) self.den }
-        requires other_num { HasSizeBelow (10 ^ 18) other.num }
-        requires other_den { HasSizeBelow (10 ^ 18) other.den }
+        requires num { IsBelow (10 ^ 18) self.num }
+        requires den { IsBelow (10 ^ 18) self.den }
+        requires other_num { IsBelow (10 ^ 18) other.num }
+        requires other_den { IsBelow (10 ^ 18) other.den }
         ensures order { IsTrue result ↔ ((self.num *ℤ other.den) <ℤ (other.num *ℤ self.den)) }
     {
         product(self.num, other.den) < product(other.num, self.den)
@@ -69,8 +69,8 @@ fn common_divisor(num: i128, den: i128) -> i128
 
 // The product of two small numbers.
 fn product(a: i128, b: i128) -> i128
-    requires a { HasSizeBelow (10 ^ 18) a }
-    requires b { HasSizeBelow (10 ^ 18) b }
+    requires a { IsBelow (10 ^ 18) a }
+    requires b { IsBelow (10 ^ 18) b }
     ensures value { result ≡ (a *ℤ b) }
 {
     a * b
@@ -83,8 +83,8 @@ fn product(a: i128, b: i128) -> i128
 /// `NoMemory` where memory is refused; the bytes are as they were then.
 pub fn push_quotient(out: &mut Vec<u8>, num: i128, den: i128) -> Result<(), NoMemory>
     requires some_den { pos 1 ≤ℤ den }
-    requires small_num { HasSizeBelow (10 ^ 37) num }
-    requires small_den { HasSizeBelow (10 ^ 37) den }
+    requires small_num { IsBelow (10 ^ 37) num }
+    requires small_den { IsBelow (10 ^ 37) den }
     ensures ok { OnOk result (out.new.items ≡ out.old.items ++ quotient_text num den) }
     ensures err { OnErr result (out.new.items ≡ out.old.items) }
 {

@@ -5,7 +5,6 @@ mod acceptance;
 mod clock_tree;
 mod cycle_paths;
 mod margin;
-mod order;
 mod period;
 mod refusals;
 mod scheduling;

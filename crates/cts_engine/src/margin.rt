@@ -2,11 +2,11 @@ ghost use Rattle.std.specs.Prelude.{◌↔◌, ℕ, List, IfOk, IfErr};
 ghost use Rattle.cts_engine.specs.Vocabulary.{JoinsMoreThan, IsLoop, IsMarginPeriod, HasNoPath, IsMarginOutcome, IsSmallOutcome, IsUnboundedOutcome, ShowsTooMany};
 
 use crate::SynthFault;
-use crate::order::levels_of;
 use crate::period::constraints_at;
 use constraints::constraints_of;
 use cts_base::Fraction;
 use cts_model::{Circuit, Tech};
+use gate_order::levels_of;
 use outcomes::MarginOutcome;
 use path_delays::pair_delays;
 use safety_margin::{Margin, greatest_margin};

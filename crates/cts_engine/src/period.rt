@@ -3,11 +3,11 @@ ghost use Rattle.cts_engine.specs.Vocabulary.{HasNoPeriod, JoinsMoreThan, IsLoop
 ghost use Rattle.outcomes.specs.PeriodOutcomes.{BeginsLowest, IsNeverOutcome};
 
 use crate::SynthFault;
-use crate::order::levels_of;
 use constraints::constraints_of;
 use critical_cycle::{Period, least_period};
 use cts_base::{Fraction, Listed, NoMemory};
 use cts_model::{Circuit, Constraint, PairDelay, PeriodShow, Tech};
+use gate_order::levels_of;
 use outcomes::PeriodOutcome;
 use path_delays::pair_delays;
 use std::alloc::Global;

@@ -3,9 +3,9 @@ ghost use Rattle.cts_engine.specs.Vocabulary.{HasNoPeriod, JoinsMoreThan, IsLoop
 ghost use Rattle.outcomes.specs.PeriodOutcomes.{BeginsLowest, IsNeverOutcome};
 
 use crate::SynthFault;
-use crate::order::levels_of;
 use crate::period::{Timing, timing_of};
 use cts_model::{Circuit, Tech};
+use gate_order::levels_of;
 use outcomes::ScheduleOutcome;
 use path_delays::pair_delays;
 use schedule::least_schedule;

@@ -2,12 +2,11 @@ ghost use Rattle.std.specs.Prelude.{◌≡◌, IfOk, IfErr};
 ghost use Rattle.cts_engine.specs.Vocabulary.{JoinsMoreThan, IsLevelsOf, ShowsTooMany, HasLeastPeriod, AreTimedSinks, IsSinkOutcome, StartsLowest};
 
 use crate::SynthFault;
-use crate::order::levels_of;
 use crate::period::{Timing, timing_of};
 use crate::times::{Times, times_of};
 use cts_base::{Fraction, Listed, NoMemory};
 use cts_model::{Constraint, Grid, PeriodShow, Problem, Sink};
-use gate_order::Levels;
+use gate_order::{Levels, levels_of};
 use path_delays::Paths;
 use std::alloc::Global;
 

@@ -2,8 +2,8 @@ ghost use Rattle.std.specs.Prelude.{ℕ, List, IfOk, IfErr};
 ghost use Rattle.cts_engine.specs.Vocabulary.{IsZeroSkew, HasSmallDelays, JoinsMoreThan, IsLoop, ShowsTooMany};
 
 use crate::SynthFault;
-use crate::order::levels_of;
 use cts_model::{Circuit, Tech, ZeroSkew};
+use gate_order::levels_of;
 use path_delays::pair_delays;
 use std::alloc::Global;
 use timing_report::zero_skew;

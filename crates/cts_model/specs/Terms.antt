@@ -8,7 +8,7 @@ pub use Rattle.cts_model.specs.netlist.Paths.{Captures, Follows, IsGate, IsInput
 pub use Rattle.cts_model.specs.netlist.Statements.{Assign, Definition, Output, Statement, declaration_of, definition_of, form_of, inputs_of, mention_of, more_inputs_of, names_of, statement_of, uses_of}
 pub use Rattle.cts_model.specs.netlist.UsedKinds.{AreUsedKinds}
 pub use Rattle.cts_model.specs.placement.Coordinates.{point_from, point_of}
-pub use Rattle.cts_model.specs.placement.PlaceLines.{Blank, Entry, Header, Node, Stands, begins_with, entry_after, entry_of_words, has_begun, is_header, is_not_blank, is_orientation, is_oriented, is_remark, is_tail, part_and, place_words, y_len}
+pub use Rattle.cts_model.specs.placement.PlaceLines.{Blank, Entry, Header, Node, Stands, begins_with, entry_after, entry_of_words, has_begun, is_header, is_orientation, is_oriented, is_remark, is_tail, part_and, y_len}
 pub use Rattle.cts_model.specs.placement.Points.{IsBelow, IsMultipleOf, IsPointBelow, IsPointMultipleOf, IsUvBelow, IsUvMultipleOf, apart, distance, rotated, rotated_distance, scaled}
 pub use Rattle.cts_model.specs.text.Entries.{entries_in, entries_of, has_words, words_in}
 pub use Rattle.cts_model.specs.text.Names.{is_name, is_name_byte, is_short}

@@ -12,4 +12,4 @@ mod sorting;
 pub use fault::LevelFault;
 pub use groups::Groups;
 pub use level_list::Levels;
-pub use order::levels;
+pub use order::{levels, levels_of};

@@ -1,9 +1,10 @@
 ghost use Rattle.std.specs.Prelude.{◌≡◌, ℕ, List, IfOk, IfErr, nat_lt, position};
-ghost use Rattle.gate_order.specs.Vocabulary.{IsLoop, IsTopologicalOrder, ShowsLoop};
+ghost use Rattle.gate_order.specs.Vocabulary.{IsLoop, IsTopologicalOrder, ShowsLoop, IsLevelsOf};
 
 use crate::loop_search::named_loop;
 use crate::sorting::{Sorting, sorted};
 use crate::{LevelFault, Levels};
+use cts_base::NoMemory;
 use cts_model::Circuit;
 use std::alloc::Global;
 
@@ -24,6 +25,22 @@ pub fn levels(alloc: Global, circuit: &Circuit) -> Result<Levels, LevelFault>
             let gates = named_loop(alloc, circuit, waiting.as_slice(), start as u32)?;
             Err(LevelFault::Loop(gates))
         }
+    }
+}
+
+/// Orders the gates of a circuit of which none read one another in a ring.
+///
+/// # Errors
+///
+/// Memory was refused.
+pub fn levels_of(alloc: Global, circuit: &Circuit) -> Result<Levels, NoMemory>
+    requires { (loop : List ℕ) → IsLoop circuit.now.signals loop → ⊥ }
+    ensures { IfOk result (IsLevelsOf circuit.now) }
+{
+    match levels(alloc, circuit) {
+        Ok(levels) => Ok(levels),
+        Err(LevelFault::Loop(_)) => unreachable!(),
+        Err(LevelFault::NoMemory) => Err(NoMemory),
     }
 }
 

@@ -1,5 +1,5 @@
 -- The places that lines give, and what is kept of them.
-use Rattle.place_reader.proofs.Vocabulary.{◌≡◌, ℕ, ◌+◌, Bool, true, false, ◌||◌, cond, IsTrue, List, [], ◌∷◌, ◌++◌, length, Some, None, Result, Ok, Err, refl, sym, ap, ◌∙◌, subst, append_assoc, append-nil, lookup, option_map, option_or, option_to_list, result_ok, bytes_eq, or-false, list_any-append, bytes_eq-Decides, NumberFault, Point, point_of, Entry, Blank, Header, Stands, entry_after, entry_of_words, has_begun, is_not_blank, place_words, entry_fault, fault_of, is_among, node_fault, place_by, place_of, places_after, AreSamePlaces, HasTaken, TakesLine, wanted_place, is_written}
+use Rattle.place_reader.proofs.Vocabulary.{◌≡◌, ℕ, ◌+◌, Bool, true, false, ◌||◌, cond, IsTrue, List, [], ◌∷◌, ◌++◌, length, Some, None, Result, Ok, Err, refl, sym, ap, ◌∙◌, subst, append_assoc, append-nil, lookup, option_map, option_or, option_to_list, result_ok, bytes_eq, or-false, list_any-append, bytes_eq-Decides, NumberFault, Point, point_of, Entry, Blank, Header, Stands, entry_after, entry_of_words, has_begun, has_words, words_in, entry_fault, fault_of, is_among, node_fault, place_by, place_of, places_after, AreSamePlaces, HasTaken, TakesLine, wanted_place, is_written}
 use Rattle.place_reader.specs.declared.placing.Placing.{Placing}
 
 -- a look-up in a list and then in another
@@ -31,9 +31,9 @@ places_push earlier (first ∷ lines) line =
 
 -- it may be the first that isn't blank
 begun_push : (earlier : List (List ℕ)) (line : List ℕ)
-    → has_begun (earlier ++ line ∷ []) ≡ (has_begun earlier || is_not_blank line)
-begun_push earlier line = list_any-append is_not_blank earlier (line ∷ [])
-    ∙ ap (λ b. has_begun earlier || b) (or-false (is_not_blank line))
+    → has_begun (earlier ++ line ∷ []) ≡ (has_begun earlier || has_words (words_in line))
+begun_push earlier line = list_any-append (λ one. has_words (words_in one)) earlier (line ∷ [])
+    ∙ ap (λ b. has_begun earlier || b) (or-false (has_words (words_in line)))
 
 module _ (wanted : List ℕ → Bool) where
   -- the place of a node that isn't wanted is of none that is
@@ -86,10 +86,10 @@ module _ (wanted : List ℕ → Bool) where
 
 module _ {start old : Placing} {earlier : List (List ℕ)} (line : List ℕ) (entry : Entry)
     (has : HasTaken start old earlier)
-    (said : Some entry ≡ entry_of_words old.begun (place_words line)) where
+    (said : Some entry ≡ entry_of_words old.begun (words_in line)) where
   -- the line is this after those before it
   entry_is : entry_after earlier line ≡ Some entry
-  entry_is = sym (said ∙ ap (λ b. entry_of_words b (place_words line)) has.begun)
+  entry_is = sym (said ∙ ap (λ b. entry_of_words b (words_in line)) has.begun)
 
   -- so this is wrong with it
   pub fault_is : (number : ℕ) → number ≡ length earlier + 1
@@ -104,7 +104,7 @@ module _ {start old : Placing} {earlier : List (List ℕ)} (line : List ℕ) (en
 
   -- and this is kept of it
   pub line_taken : {new : Placing} {number : ℕ} → new.wanted ≡ old.wanted
-      → is_written entry ≡ is_not_blank line → TakesLine old new number entry
+      → is_written entry ≡ has_words (words_in line) → TakesLine old new number entry
       → HasTaken start new (earlier ++ line ∷ [])
   line_taken {new} {number} names written takes = record {
     wanted = names ∙ has.wanted;

@@ -17,7 +17,7 @@ pub use Rattle.cts_base.specs.Lines.{lines_of}
 pub use Rattle.cts_base.specs.declared.number.NumberFault.{NumberFault}
 pub use Rattle.cts_model.specs.declared.circuit.Circuit.{Circuit}
 pub use Rattle.cts_model.specs.declared.place.Point.{Point}
-pub use Rattle.cts_model.specs.Vocabulary.{point_of, Entry, Blank, Header, Stands, entry_after, entry_of_words, has_begun, is_not_blank, place_words}
+pub use Rattle.cts_model.specs.Vocabulary.{point_of, Entry, Blank, Header, Stands, entry_after, entry_of_words, has_begun, has_words, words_in}
 pub use Rattle.place_reader.specs.Names.{AreSameNames}
 unfoldable pub use Rattle.place_reader.specs.Placements.{places_in}
 pub use Rattle.place_reader.specs.Placements.{is_among, entry_fault, fault_of, node_fault, place_by, place_of, places_after, AcceptsPlacement, RefusesPlacement, points_from, register_nodes, wanted_nodes, with_source, node_name}

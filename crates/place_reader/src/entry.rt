@@ -1,5 +1,5 @@
 ghost use Rattle.std.specs.Prelude.{◌≡◌, ◌≤◌, length, IfSome};
-ghost use Rattle.place_reader.specs.Vocabulary.{option_map, entry_of_words, is_header, is_not_blank, place_words, y_len, is_written, said_by};
+ghost use Rattle.place_reader.specs.Vocabulary.{option_map, entry_of_words, is_header, has_words, words_in, y_len, is_written, said_by};
 
 use crate::tail::is_tail;
 use cts_base::Line;
@@ -27,9 +27,9 @@ impl<'a> Entry<'a> {
     /// Reads a line; `begun` says that an earlier one isn't blank. `None` says that it has no form
     /// of the format.
     pub(crate) fn of(begun: bool, line: Line<'a>) -> Option<Entry<'a>>
-        ensures said { option_map said_by result ≡ entry_of_words begun (place_words line.entry.text.now) }
+        ensures said { option_map said_by result ≡ entry_of_words begun (words_in line.entry.text.now) }
         ensures written { IfSome result
-            (λ entry. is_written (said_by entry) ≡ is_not_blank line.entry.text.now) }
+            (λ entry. is_written (said_by entry) ≡ has_words (words_in line.entry.text.now)) }
     {
         let mut words = line.words();
         let Some(name) = words.next() else {

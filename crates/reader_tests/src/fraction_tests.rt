@@ -1,5 +1,5 @@
 ghost use Rattle.std.specs.Prelude.{◌^◌};
-ghost use Rattle.cts_base.specs.Fractions.{HasSizeBelow};
+ghost use Rattle.cts_base.specs.Fractions.{IsBelow};
 
 use crate::same::expect_same;
 use cts_base::{Fraction, push_fraction};
@@ -14,8 +14,8 @@ const SMALL: i128 = 1_000_000_000_000_000_000;
 
 // The fraction of two numbers that are small enough to compare it.
 fn small(rt: &impl Abort, num: i128, den: i128) -> Fraction
-    ensures num { HasSizeBelow (10 ^ 18) result.num }
-    ensures den { HasSizeBelow (10 ^ 18) result.den }
+    ensures num { IsBelow (10 ^ 18) result.num }
+    ensures den { IsBelow (10 ^ 18) result.den }
 {
     assert!(rt; -SMALL < num);
     assert!(rt; num < SMALL);

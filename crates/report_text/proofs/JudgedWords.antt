@@ -1,6 +1,6 @@
 -- Whether a text spells a number, and which; so each word has a flaw by its field or has none, and
 -- so each line has.
-use Rattle.report_text.proofs.Vocabulary.{◌≡◌, ◌⊎◌, ◌<◌, ◌^◌, ◌==◌, ℕ, zero, suc, ℤ, pos, negsuc, ◌≤ℤ◌, nat_abs, Bool, true, false, true≢false, inl, inr, List, [], ◌∷◌, ◌++◌, drop, refl, sym, ap, subst, ◌∙◌, arith, ◌≤◌, ◌<ℤ◌, ◌+ℤ◌, ◌*ℤ◌, Option, Some, None, codes, IsGcd, int_eq, bytes_eq, AllDigits, IsNumeral, digits_value, starts_with_minus, int_div, int_rem, position, cases_lt, Decides-eqb, Decides-int_eq, ints, by_lt_z, le_of_dvd, bytes_eq-Decides, HasSizeBelow, IsLowest, divisor_up_to, HaveSmallSizes, IsPlainNumeral, SpellsQuotient, SpellsWhole, up_to_second, HasNoSlash, one_split, slash_differs, one_whole, plain_no_minus, quotient_some, whole_no_slash, one_quotient, Circuit, one_register, Flaw, Large, Unfit, Unknown, IsRefusedFor, HasStepsFlaw, IsNegativeQuotient, Field, IsFirstFlaw, LineHasFlaw, NamesRegister, NamesSignal, WordHasFlaw, sooner_flaw, IsNumberOf, map, range_with_len, register_name, signal_name, length}
+use Rattle.report_text.proofs.Vocabulary.{◌≡◌, ◌⊎◌, ◌<◌, ◌^◌, ◌==◌, ℕ, zero, suc, ℤ, pos, negsuc, ◌≤ℤ◌, nat_abs, Bool, true, false, true≢false, inl, inr, List, [], ◌∷◌, ◌++◌, drop, refl, sym, ap, subst, ◌∙◌, arith, ◌≤◌, ◌<ℤ◌, ◌+ℤ◌, ◌*ℤ◌, Option, Some, None, codes, IsGcd, int_eq, bytes_eq, AllDigits, IsNumeral, digits_value, starts_with_minus, int_div, int_rem, position, cases_lt, Decides-eqb, Decides-int_eq, ints, by_lt_z, le_of_dvd, bytes_eq-Decides, IsBelow, IsLowest, divisor_up_to, HaveSmallSizes, IsPlainNumeral, SpellsQuotient, SpellsWhole, up_to_second, HasNoSlash, one_split, slash_differs, one_whole, plain_no_minus, quotient_some, whole_no_slash, one_quotient, Circuit, one_register, Flaw, Large, Unfit, Unknown, IsRefusedFor, HasStepsFlaw, IsNegativeQuotient, Field, IsFirstFlaw, LineHasFlaw, NamesRegister, NamesSignal, WordHasFlaw, sooner_flaw, IsNumberOf, map, range_with_len, register_name, signal_name, length}
 use Rattle.report_text.specs.declared.field.Flaw.TheVariants.{Form}
 use Rattle.report_text.specs.LineFields as field
 use Rattle.report_text.proofs.WalkLemmas.{line_first}
@@ -28,7 +28,7 @@ pub same_text : (a b : List ℕ) → OrNot (a ≡ b)
 same_text a b = decided (bytes_eq a b) (bytes_eq-Decides a b)
 
 -- a number is below a bound in size
-pub size_or_not : (bound : ℕ) (number : ℤ) → OrNot (HasSizeBelow bound number)
+pub size_or_not : (bound : ℕ) (number : ℤ) → OrNot (IsBelow bound number)
 size_or_not bound number = search (arith, ints, by_lt_z)
 
 -- ---- whole numbers
@@ -280,7 +280,7 @@ module _ (circuit : Circuit) where
   weight_judged text = judged formed sure (λ known. sure)
       (λ is. elim (size_or_not (10 ^ 12) is.0) [
         | inl small ↦ inl (λ value spells.
-            subst (HasSizeBelow (10 ^ 12)) (one_whole text is.0 value is.1 spells) small)
+            subst (IsBelow (10 ^ 12)) (one_whole text is.0 value is.1 spells) small)
         | inr large ↦ inr (λ within. large (within is.0 is.1))
       ])
     where

@@ -1,34 +1,34 @@
 -- The word of a number and the number: whole numbers, and fractions that are whole steps.
-use Rattle.report_text.proofs.Vocabulary.{◌≡◌, ◌≤◌, ◌^◌, ℕ, ℤ, pos, negsuc, ◌+ℤ◌, ◌≤ℤ◌, nat_abs, List, FitsSigned, refl, ◌∙◌, arith, w128, ints, signed_decimal, int_div, Fraction, HasSizeBelow, divisor_up_to, quotient_text, SpellsWhole, HaveSmallSizes, kept_size, few_digits, up_to_second, quotient_text_is, whole_text, whole_spelled, quotient_text_spelled, fraction_spelled, int_div-le, lowest_quotients, same_value, IsBelow, IsFractionForm, AreSteps, IsWholeSteps, AreFewSteps}
+use Rattle.report_text.proofs.Vocabulary.{◌≡◌, ◌≤◌, ◌^◌, ℕ, ℤ, pos, negsuc, ◌+ℤ◌, ◌≤ℤ◌, nat_abs, List, FitsSigned, refl, ◌∙◌, arith, w128, ints, signed_decimal, int_div, Fraction, IsBelow, divisor_up_to, quotient_text, SpellsWhole, HaveSmallSizes, kept_size, few_digits, up_to_second, quotient_text_is, whole_text, whole_spelled, quotient_text_spelled, fraction_spelled, int_div-le, lowest_quotients, same_value, IsFractionForm, AreSteps, IsWholeSteps, AreFewSteps}
 
 -- ---- whole numbers
 
 -- the word of a number below 10^37 in size is what a report has for it
-pub whole_word : (word : List ℕ) (value : ℤ) → HasSizeBelow (10 ^ 37) value
+pub whole_word : (word : List ℕ) (value : ℤ) → IsBelow (10 ^ 37) value
     → SpellsWhole word value → word ≡ signed_decimal value
 whole_word word value small spells = whole_text word value (few_digits value small) spells
 
 -- what is read of a word, where it is such a number, is the one of the word
 pub whole_read : (word : List ℕ) (value read number : ℤ) → SpellsWhole word value
-    → read ≡ kept_size value → number ≡ read → HasSizeBelow (10 ^ 37) number
+    → read ≡ kept_size value → number ≡ read → IsBelow (10 ^ 37) number
     → word ≡ signed_decimal number
 whole_read word value read number spells kept same small = search (arith, whole_word)
 
 -- and what a report has for such a number spells it
-pub spelled_whole : (value : ℤ) → HasSizeBelow (10 ^ 37) value
+pub spelled_whole : (value : ℤ) → IsBelow (10 ^ 37) value
     → SpellsWhole (signed_decimal value) value
 spelled_whole value small = whole_spelled value (few_digits value small)
 
 -- ---- steps
 
 -- an i128 holds a number below 10^37 in size
-pub fits : (n : ℤ) → HasSizeBelow (10 ^ 37) n → FitsSigned w128 n
+pub fits : (n : ℤ) → IsBelow (10 ^ 37) n → FitsSigned w128 n
 fits (pos n) small = let below = small.below in record { sfits = omega (arith, ints, below) }
 fits (negsuc n) small = let above = small.above in record { sfits = omega (arith, ints, above) }
 
 -- a number that is no larger in size
-pub smaller : (bound : ℕ) (a b : ℤ) → nat_abs a ≤ nat_abs b → HasSizeBelow bound b
-    → HasSizeBelow bound a
+pub smaller : (bound : ℕ) (a b : ℤ) → nat_abs a ≤ nat_abs b → IsBelow bound b
+    → IsBelow bound a
 smaller bound (pos a) (pos b) less small = search (arith, ints)
 smaller bound (pos a) (negsuc b) less small = search (arith, ints)
 smaller bound (negsuc a) (pos b) less small = search (arith, ints)
@@ -59,8 +59,8 @@ pub record HasFraction (over steps num den : ℤ) : Type 0 where
   pub are : AreSteps over num den steps
 
 -- what a report has for so many steps is a fraction, of that many steps
-pub spelled_steps : (over steps : ℤ) → pos 1 ≤ℤ over → HasSizeBelow (10 ^ 37) over
-    → HasSizeBelow (10 ^ 37) steps → (num : ℤ) × (den : ℤ) × HasFraction over steps num den
+pub spelled_steps : (over steps : ℤ) → pos 1 ≤ℤ over → IsBelow (10 ^ 37) over
+    → IsBelow (10 ^ 37) steps → (num : ℤ) × (den : ℤ) × HasFraction over steps num den
 unfolding quotient_text
 spelled_steps (negsuc over) steps some small small' = absurd (omega (arith, ints, some))
 spelled_steps (pos over) steps some small small' =

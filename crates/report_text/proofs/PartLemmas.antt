@@ -1,5 +1,5 @@
 -- What the first lines of a text tell of the lines after them, and where its first fault is.
-use Rattle.report_text.proofs.Vocabulary.{◌≡◌, ◌≢◌, ◌≤◌, ◌^◌, ℕ, zero, suc, pos, Option, Some, None, List, [], ◌∷◌, ◌++◌, map, length, get_or, codes, if◌then◌else◌, refl, sym, ap, subst, ◌∙◌, append-nil, arith, ℤ, negsuc, ◌≤ℤ◌, Bool, true, false, cond, ne_eqb, slice_split, after_first, list_any, bytes_eq, length-replicate, Decides-int_eq, ints, signed_decimal, int_eq, digits_value, Circuit, Version, First, Second, Tech, Words, period_line, version_line, IsSmallPeriod, ReportFault, NoMemory, Scale, Heading, cycle_forms, forms_after, forms_of, HasHeading, HasShown, IsSmallCount, shown_line, scale_in, whole, HasFault, HasFirstFault, cycle_denoted, den_denoted, is_line_feed, scale_denoted, version_denoted, word_at, words_of, Left, Stops, Fraction, HasSizeBelow, fraction_text, is_slash, HasNoSlash, whole_no_slash, unwrap_or}
+use Rattle.report_text.proofs.Vocabulary.{◌≡◌, ◌≢◌, ◌≤◌, ◌^◌, ℕ, zero, suc, pos, Option, Some, None, List, [], ◌∷◌, ◌++◌, map, length, get_or, codes, if◌then◌else◌, refl, sym, ap, subst, ◌∙◌, append-nil, arith, ℤ, negsuc, ◌≤ℤ◌, Bool, true, false, cond, ne_eqb, slice_split, after_first, list_any, bytes_eq, length-replicate, Decides-int_eq, ints, signed_decimal, int_eq, digits_value, Circuit, Version, First, Second, Tech, Words, period_line, version_line, IsSmallPeriod, ReportFault, NoMemory, Scale, Heading, cycle_forms, forms_after, forms_of, HasHeading, HasShown, IsSmallCount, shown_line, scale_in, whole, HasFault, HasFirstFault, cycle_denoted, den_denoted, is_line_feed, scale_denoted, version_denoted, word_at, words_of, Left, Stops, Fraction, IsBelow, fraction_text, is_slash, HasNoSlash, whole_no_slash, unwrap_or}
 use Rattle.report_text.specs.declared.sections.Shown.{Shown}
 use Rattle.report_text.proofs.RowLemmas.{length_pathed}
 use Rattle.report_text.proofs.WalkLemmas.{after_place, first_place}
@@ -34,13 +34,13 @@ den_of word = if list_any is_slash word
     then pos (digits_value 10 (after_first is_slash word)) else pos 1
 
 -- the value of a number's digits
-pub value_of : (number : ℕ) → HasSizeBelow (10 ^ 37) (pos number)
+pub value_of : (number : ℕ) → IsBelow (10 ^ 37) (pos number)
     → digits_value 10 (signed_decimal (pos number)) ≡ number
 value_of number small = (spelled_whole (pos number) small).1
 
 -- of a fraction's text it is the denominator
-fraction_den : (num den : ℤ) → pos 1 ≤ℤ den → HasSizeBelow (10 ^ 37) num
-    → HasSizeBelow (10 ^ 37) den → den_of (fraction_text num den) ≡ den
+fraction_den : (num den : ℤ) → pos 1 ≤ℤ den → IsBelow (10 ^ 37) num
+    → IsBelow (10 ^ 37) den → den_of (fraction_text num den) ≡ den
 fraction_den num (negsuc den) some small small' = absurd (omega (arith, ints, some))
 fraction_den num (pos den) some small small' = at (int_eq (pos den) (pos 1)) refl
   where

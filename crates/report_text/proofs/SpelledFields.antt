@@ -1,6 +1,6 @@
 -- What each word of a line without a flaw is: the word of a value that its field admits. A line has
 -- no flaw just where each of its words is one.
-use Rattle.report_text.proofs.Vocabulary.{◌≡◌, ◌^◌, ℤ, pos, negsuc, ◌*ℤ◌, ◌≤ℤ◌, arith, ◌<◌, ◌≤◌, ◌⊎◌, ℕ, nat_abs, Bool, true, false, inl, inr, List, [], ◌∷◌, length, if◌then◌else◌, Option, Some, None, codes, drop, get_or, refl, sym, ap, ◌∙◌, subst, signed_decimal, AllByRecursion, one-le-mul, ints, Fraction, HasSizeBelow, fraction_text, quotient_text, IsLowest, SpellsWhole, HaveSmallSizes, few_digits, lowest_sizes, no_fraction_minus, one_decimal, one_fraction_text, one_number_text, one_quotient_text, one_whole, quotient_some, quotient_text_spelled, Tech, IsBelow, IsSmallPeriod, Circuit, Version, First, Second, register_name, signal_name, Words, slack_text, IsSmallSlack, one_register, one_signal, scale_in, IsSmallScale, Field, AreFewSteps, IsFractionForm, IsWholeSteps, LineHasFlaw, NamesRegister, WordHasFlaw, version_text}
+use Rattle.report_text.proofs.Vocabulary.{◌≡◌, ◌^◌, ℤ, pos, negsuc, ◌*ℤ◌, ◌≤ℤ◌, arith, ◌<◌, ◌≤◌, ◌⊎◌, ℕ, nat_abs, Bool, true, false, inl, inr, List, [], ◌∷◌, length, if◌then◌else◌, Option, Some, None, codes, drop, get_or, refl, sym, ap, ◌∙◌, subst, signed_decimal, AllByRecursion, one-le-mul, ints, Fraction, IsBelow, fraction_text, quotient_text, IsLowest, SpellsWhole, HaveSmallSizes, few_digits, lowest_sizes, no_fraction_minus, one_decimal, one_fraction_text, one_number_text, one_quotient_text, one_whole, quotient_some, quotient_text_spelled, Tech, IsSmallPeriod, Circuit, Version, First, Second, register_name, signal_name, Words, slack_text, IsSmallSlack, one_register, one_signal, scale_in, IsSmallScale, Field, AreFewSteps, IsFractionForm, IsWholeSteps, LineHasFlaw, NamesRegister, WordHasFlaw, version_text}
 use Rattle.std.proofs.lemmas.Nat.{mul-le}
 use Rattle.std.proofs.Props.{props}
 use Rattle.report_text.specs.LineFields as field
@@ -125,20 +125,20 @@ IsSmallField (field.Exactly number) = number < 10 ^ 37
 IsSmallField (field.Number least most) = most < 10 ^ 37
 IsSmallField (field.Counted count most) = most < 10 ^ 37
 IsSmallField (field.Steps over (pos bound)) =
-    (pos 1 ≤ℤ over) × HasSizeBelow (10 ^ 37) over × (bound ≤ 10 ^ 37)
+    (pos 1 ≤ℤ over) × IsBelow (10 ^ 37) over × (bound ≤ 10 ^ 37)
 IsSmallField (field.Steps over (negsuc bound)) = ⊥
 IsSmallField (field.Slack over bound) =
-    (pos 1 ≤ℤ over) × HasSizeBelow (10 ^ 37) over × (bound ≡ pos (10 ^ 20))
+    (pos 1 ≤ℤ over) × IsBelow (10 ^ 37) over × (bound ≡ pos (10 ^ 20))
 IsSmallField due = Unit {0}
 
 -- ---- numbers
 
-pub small_number : (number : ℕ) → number < 10 ^ 37 → HasSizeBelow (10 ^ 37) (pos number)
+pub small_number : (number : ℕ) → number < 10 ^ 37 → IsBelow (10 ^ 37) (pos number)
 small_number number less = record { above = omega (arith, ints); below = omega (arith, ints, less) }
 
 -- a number below a bound is below a greater one
 pub size_below : (bound : ℕ) (number : ℤ) → bound ≤ 10 ^ 37 → IsBelow bound number
-    → HasSizeBelow (10 ^ 37) number
+    → IsBelow (10 ^ 37) number
 size_below bound number less small = search (arith, ints)
 
 -- a number of a range
@@ -174,7 +174,7 @@ slack_spelled over word (inr (num, den, form)) whole few =
     )
 
 -- the parts of a small slack are small
-pub small_slack : (over : ℤ) (slack : Fraction) → pos 1 ≤ℤ over → HasSizeBelow (10 ^ 37) over
+pub small_slack : (over : ℤ) (slack : Fraction) → pos 1 ≤ℤ over → IsBelow (10 ^ 37) over
     → IsSmallSlack over (Some slack) → HaveSmallSizes slack.num slack.den
 small_slack over slack some low small =
     let sizes = lowest_sizes small.0 over slack some small.1 in (
@@ -260,7 +260,7 @@ module _ (circuit : Circuit) where
         tt,
         tt,
         λ value other.
-            subst (HasSizeBelow (10 ^ 12))
+            subst (IsBelow (10 ^ 12))
             (one_whole (signed_decimal weight) weight value spells other)
             (record { above = above; below = less }),
       )
@@ -270,7 +270,7 @@ module _ (circuit : Circuit) where
   period_plain period small = search (arith, small_period, period_within, read_quotient_is)
 
   steps_plain : (over : ℤ) (bound : ℕ) (steps : ℤ) → pos 1 ≤ℤ over
-      → HasSizeBelow (10 ^ 37) over → bound ≤ 10 ^ 37 → IsBelow bound steps
+      → IsBelow (10 ^ 37) over → bound ≤ 10 ^ 37 → IsBelow bound steps
       → WordHasFlaw circuit (field.Steps over (pos bound)) (quotient_text steps over) None
   steps_plain over bound steps some small less below =
       let (num, den, has) =
@@ -279,7 +279,7 @@ module _ (circuit : Circuit) where
       steps_denoted (quotient_text steps over) num den has.form.0 over (pos bound) has.small lowest
       None (steps_small over num den bound steps lowest has.are below) circuit
 
-  slack_plain : (over : ℤ) (slack : Option Fraction) → pos 1 ≤ℤ over → HasSizeBelow (10 ^ 37) over
+  slack_plain : (over : ℤ) (slack : Option Fraction) → pos 1 ≤ℤ over → IsBelow (10 ^ 37) over
       → IsSmallSlack over slack
       → WordHasFlaw circuit (field.Slack over (pos (10 ^ 20))) (slack_text slack) None
   slack_plain over None some low small = dash_plain over (pos (10 ^ 20)) (codes "-") refl circuit
@@ -330,7 +330,7 @@ module _ (circuit : Circuit) where
       same_fraction fraction other num den
 
   one_slack : (over : ℤ) (slack other : Option Fraction) → pos 1 ≤ℤ over
-      → HasSizeBelow (10 ^ 37) over → IsSmallSlack over slack → IsSmallSlack over other
+      → IsBelow (10 ^ 37) over → IsSmallSlack over slack → IsSmallSlack over other
       → slack_text slack ≡ slack_text other → slack ≡ other
   one_slack over None None some low small small' same = refl
   one_slack over None (Some other) some low small small' same =

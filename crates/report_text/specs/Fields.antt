@@ -1,6 +1,6 @@
 -- What a word of a report's line has to be, by this project's choice, and its first flaw.
 use Rattle.std.specs.Prelude.{List, None, Option, Some, [], codes, length, map, pos, ℕ, ℤ, ◌*ℤ◌, ◌+ℤ◌, ◌<ℤ◌, ◌<◌, ◌^◌, ◌∷◌, ◌≡◌, ◌≤ℤ◌, ◌≤◌, ◌⊎◌}
-use Rattle.report_text.specs.Common.{HasSizeBelow, IsLowest, SpellsWhole, SpellsQuotient, HaveSmallSizes, IsLargeQuotient, IsNoFraction, Circuit, register_name, signal_name, Flaw, range_with_len}
+use Rattle.report_text.specs.Common.{IsBelow, IsLowest, SpellsWhole, SpellsQuotient, HaveSmallSizes, IsLargeQuotient, IsNoFraction, Circuit, register_name, signal_name, Flaw, range_with_len}
 use Rattle.report_text.specs.declared.field.Flaw.TheVariants as flaws
 use Rattle.report_text.specs.LineFields.{Field, Word, Version, Kind, Exactly, Number, Counted, Weight, Period, Steps, Slack, Register, Named, From, Signal}
 
@@ -67,7 +67,7 @@ AreFewSteps over bound text = (num den : ℤ) → SpellsQuotient text num den
 abbrev pub IsWithin : Field → List ℕ → Type 0
 IsWithin (Number least most) text = (value : ℤ) → SpellsWhole text value → value ≤ℤ pos most
 IsWithin (Counted count most) text = count ≤ most
-IsWithin Weight text = (value : ℤ) → SpellsWhole text value → HasSizeBelow (10 ^ 12) value
+IsWithin Weight text = (value : ℤ) → SpellsWhole text value → IsBelow (10 ^ 12) value
 IsWithin Period text = (num den : ℤ) → SpellsQuotient text num den
     → (num <ℤ pos (10 ^ 18)) × (den ≤ℤ pos 4097)
 IsWithin (Steps over bound) text = AreFewSteps over bound text

@@ -1,6 +1,6 @@
 -- What the lines of a report tell: their words, and values within their bounds.
 use Rattle.std.specs.Prelude.{All, List, None, Option, Some, [], codes, length, pos, take, ℕ, ℤ, ◌++◌, ◌<ℤ◌, ◌<◌, ◌^◌, ◌∷◌, ◌≡◌, ◌≤ℤ◌, ◌≤◌}
-use Rattle.report_text.specs.Common.{quotient_text, HasSizeBelow, Fraction, Circuit, Constraint, Point, Report, Lead, IsBelow, IsPointBelow, IsSmallWire, HasSmallWeight, IsBetweenRegisters, LeadsAmong, IsSmallLead, IsMergeShow, IsSmallMerge, IsSourceShow, ShowsAmong, lead_line, path_line, show_words, Words, count_line, period_line, register_line, floor_line, line_for, IsSmallPeriod, AreSmallSlacks, Scale, Timed, MergeLine, NodeLine, SourceLine, signed_decimal, flat_map}
+use Rattle.report_text.specs.Common.{quotient_text, IsBelow, Fraction, Circuit, Constraint, Point, Report, Lead, IsPointBelow, IsSmallWire, HasSmallWeight, IsBetweenRegisters, LeadsAmong, IsSmallLead, IsMergeShow, IsSmallMerge, IsSourceShow, ShowsAmong, lead_line, path_line, show_words, Words, count_line, period_line, register_line, floor_line, line_for, IsSmallPeriod, AreSmallSlacks, Scale, Timed, MergeLine, NodeLine, SourceLine, signed_decimal, flat_map}
 
 -- words that stand after others on a line: each after a space
 abbrev pub suffix : Words → List ℕ
@@ -52,9 +52,9 @@ pub record DenotesLead (circuit : Circuit) (words : Words) (lead : Lead) : Type 
 -- there are steps, and few enough for their words
 pub record IsSmallScale (scale : Scale) : Type 0 where
   pub some_den : pos 1 ≤ℤ scale.den
-  pub small_den : HasSizeBelow (10 ^ 37) scale.den
+  pub small_den : IsBelow (10 ^ 37) scale.den
   pub some_grid : pos 1 ≤ℤ scale.grid
-  pub small_grid : HasSizeBelow (10 ^ 37) scale.grid
+  pub small_grid : IsBelow (10 ^ 37) scale.grid
 
 -- the words of a node that a merge makes
 abbrev pub merged_line : Circuit → (grid : ℤ) → (node : ℕ) → MergeLine → Words

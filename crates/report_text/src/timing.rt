@@ -1,7 +1,7 @@
 //! Appending the lines of a report's timing: the period, the schedule, and what shows them.
 
 ghost use Rattle.std.specs.Prelude.{◌≡◌, ◌<◌, ◌≤ℤ◌, ◌^◌, ℤ, pos, ◌++◌, ◌∷◌, [], length, map, All, OnOk};
-ghost use Rattle.report_text.specs.Vocabulary.{Second, HasSizeBelow, line_of, text_of, register_line, slack_text, LeadsAmong, version_line, path_line, period_show_lines, register_line_at, lead_line, lines_below, timing_lines, signal_name, arrival_of, suffix};
+ghost use Rattle.report_text.specs.Vocabulary.{Second, IsBelow, line_of, text_of, register_line, slack_text, LeadsAmong, version_line, path_line, period_show_lines, register_line_at, lead_line, lines_below, timing_lines, signal_name, arrival_of, suffix};
 
 use crate::line::{push_count, push_line, push_line_for, push_number, push_word};
 use crate::period::{push_period, push_show};
@@ -122,8 +122,8 @@ pub fn push_register(
     requires within { register < length circuit.now.registers }
     requires arrives { register < length schedule.now.at }
     requires some_den { pos 1 ≤ℤ schedule.now.den }
-    requires small_den { HasSizeBelow (10 ^ 37) schedule.now.den }
-    requires small { HasSizeBelow (10 ^ 37) (arrival_of schedule.now.at register) }
+    requires small_den { IsBelow (10 ^ 37) schedule.now.den }
+    requires small { IsBelow (10 ^ 37) (arrival_of schedule.now.at register) }
     ensures { OnOk result (out.new.items ≡ out.old.items ++ line_of (register_line circuit.now
         schedule.now.den register (arrival_of schedule.now.at register) slack)) }
 {

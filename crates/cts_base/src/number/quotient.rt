@@ -1,5 +1,5 @@
 ghost use Rattle.std.specs.Prelude.{◌≡◌, ◌^◌, ◌≤ℤ◌, ℤ, pos, ◌↔◌, IsTrue, IfSome, IsNone, IfOk, MatchResult};
-ghost use Rattle.cts_base.specs.Vocabulary.{position, IsErrOf, HasSizeBelow, IsLowest, fraction_text, is_slash, SpellsWhole, SpellsQuotient, kept_size, HaveSmallSizes, IsNoFraction, IsLargeQuotient, RefusesFraction};
+ghost use Rattle.cts_base.specs.Vocabulary.{position, IsErrOf, IsBelow, IsLowest, fraction_text, is_slash, SpellsWhole, SpellsQuotient, kept_size, HaveSmallSizes, IsNoFraction, IsLargeQuotient, RefusesFraction};
 
 use crate::fraction::Fraction;
 use crate::number::NumberFault;
@@ -72,11 +72,11 @@ fn read_over_one(text: &[u8]) -> Option<Quotient>
 /// `NotNumber` where it isn't in lowest terms; never `TooFine`.
 pub fn read_fraction(text: &[u8]) -> Result<Fraction, NumberFault>
     ensures ok { IfOk result (λ fraction. text.now ≡ fraction_text fraction.num fraction.den) }
-    ensures spelled { (fraction : Fraction) → HasSizeBelow (10 ^ 37) fraction.num
-        → HasSizeBelow (10 ^ 37) fraction.den
+    ensures spelled { (fraction : Fraction) → IsBelow (10 ^ 37) fraction.num
+        → IsBelow (10 ^ 37) fraction.den
         → text.now ≡ fraction_text fraction.num fraction.den → result ≡ Ok fraction }
     ensures small { IfOk result (λ fraction.
-        HasSizeBelow (10 ^ 37) fraction.num × HasSizeBelow (10 ^ 37) fraction.den) }
+        IsBelow (10 ^ 37) fraction.num × IsBelow (10 ^ 37) fraction.den) }
     ensures not_number { IsErrOf result NumberFault.NotNumber ↔ IsNoFraction text.now }
     ensures too_large { IsErrOf result NumberFault.TooLarge ↔ IsLargeQuotient text.now }
     ensures too_fine { ¬ (IsErrOf result NumberFault.TooFine) }
@@ -107,7 +107,7 @@ fn has_small_sizes(quotient: Quotient) -> bool
 }
 
 fn is_small(number: i128) -> bool
-    ensures { IsTrue result ↔ HasSizeBelow (10 ^ 37) number }
+    ensures { IsTrue result ↔ IsBelow (10 ^ 37) number }
 {
     number.unsigned_abs() < BOUND
 }

@@ -4,7 +4,8 @@ use Rattle.std.specs.Prelude.{ℕ, Bool, true, false, not, ◌==◌, ◌&&◌, �
 use Rattle.std.specs.Option.{option_map}
 use Rattle.std.specs.List.{prefix_len, list_any}
 use Rattle.std.specs.Str.{bytes_eq, str_eq_ignore_ascii_case}
-use Rattle.cts_base.specs.Words.{words_of, before_hash, is_not_empty}
+use Rattle.cts_base.specs.Words.{is_not_empty}
+use Rattle.cts_model.specs.text.Entries.{has_words, words_in}
 
 -- a node's line: its name and its coordinates as they are written
 pub record Node : Type 0 where
@@ -76,18 +77,10 @@ entry_of_words begun (first ∷ second ∷ rest) =
     if not begun && is_header first second then Some Header
     else option_map Stands (node_of first second rest)
 
--- the words of a line
-abbrev pub place_words : List ℕ → List (List ℕ)
-place_words line = words_of (before_hash line)
-
--- the line has a word
-abbrev pub is_not_blank : List ℕ → Bool
-is_not_blank line = not (length (place_words line) == 0)
-
 -- one of these lines isn't blank
 abbrev pub has_begun : List (List ℕ) → Bool
-has_begun lines = list_any is_not_blank lines
+has_begun lines = list_any (λ line. has_words (words_in line)) lines
 
 -- what a line is after these lines, if it has a form
 abbrev pub entry_after : (earlier : List (List ℕ)) → List ℕ → Option Entry
-entry_after earlier line = entry_of_words (has_begun earlier) (place_words line)
+entry_after earlier line = entry_of_words (has_begun earlier) (words_in line)

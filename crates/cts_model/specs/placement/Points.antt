@@ -2,14 +2,10 @@
 -- deferred merging: Boese and Kahng 1992; Chao and others 1992. Wires run along x and y, so the
 -- distance of two points is the Manhattan distance. A definition speaks of whole numbers; taken as
 -- numerators over one denominator, the scale, they are all fractions.
-use Rattle.std.specs.Prelude.{◌≡◌, ℕ, ◌%◌, ℤ, pos, ◌+ℤ◌, ◌-ℤ◌, ◌*ℤ◌, neg_ℤ, ◌<ℤ◌, nat_abs}
+use Rattle.std.specs.Prelude.{◌≡◌, ℕ, ◌%◌, ℤ, pos, ◌+ℤ◌, ◌-ℤ◌, ◌*ℤ◌, nat_abs}
 use Rattle.std.specs.Int.{int_max}
 use Rattle.cts_model.specs.Types.{Point, Uv}
-
--- the size of the number is below the bound
-pub record IsBelow (bound : ℕ) (number : ℤ) : Type 0 where
-  pub above : neg_ℤ (pos bound) <ℤ number
-  pub below : number <ℤ pos bound
+pub use Rattle.cts_base.specs.Fractions.{IsBelow}
 
 -- the number is that many times a whole number
 abbrev pub IsMultipleOf : ℕ → ℤ → Type 0

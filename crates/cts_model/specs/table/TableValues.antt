@@ -1,11 +1,12 @@
 -- What a delay table gives at its keys.
-use Rattle.std.specs.Prelude.{ℕ, ◌+◌, nat_le, ℤ, pos, negsuc, Bool, false, ◌&&◌, ◌==◌, List, [], ◌∷◌, ◌++◌, length, take, drop, position, Option, Some, is_some, unwrap_or, codes}
+use Rattle.std.specs.Prelude.{ℕ, ◌+◌, nat_le, ℤ, pos, negsuc, Bool, false, ◌&&◌, List, [], ◌∷◌, ◌++◌, length, take, drop, position, Option, Some, is_some, unwrap_or, codes}
 use Rattle.std.specs.Option.{option_and_then, option_map_or}
-use Rattle.std.specs.List.{flat_map, list_all}
-use Rattle.std.specs.Char.{is_ascii_digit}
+use Rattle.std.specs.List.{flat_map}
 use Rattle.std.specs.Str.Parse.{digits_value}
 use Rattle.toml.specs.Data.{Data, Members, get_member, as_str, as_integer, as_table}
 use Rattle.cts_model.specs.Types.{Kind, GateDelay}
+pub use Rattle.cts_base.specs.Decimals.{is_numeral}
+pub use Rattle.cts_base.specs.NumberTexts.{is_slash}
 use Rattle.cts_model.specs.table.TableKeys.{Form, Fraction, Node, UpTo, gate_way}
 
 -- a name after those of the tables that lead to it, joined by dots
@@ -32,9 +33,6 @@ abbrev pub number_at : List (List ℕ) → List ℕ → Members → ℤ
 number_at way name document =
     unwrap_or (option_and_then as_integer (value_at way name document)) (pos 0)
 
-abbrev pub is_slash : ℕ → Bool
-is_slash byte = byte == 47
-
 -- the texts before and after the first slash; where there is none, 1 stands after it
 abbrev pub numerator_text : List ℕ → List ℕ
 numerator_text text =
@@ -49,10 +47,6 @@ numerator_of text = digits_value 10 (numerator_text text)
 
 abbrev pub denominator_of : List ℕ → ℕ
 denominator_of text = digits_value 10 (denominator_text text)
-
--- one or more decimal digits
-abbrev pub is_numeral : List ℕ → Bool
-is_numeral digits = nat_le 1 (length digits) && list_all is_ascii_digit digits
 
 abbrev pub is_fraction : List ℕ → Bool
 is_fraction text = is_numeral (numerator_text text) && is_numeral (denominator_text text)

@@ -1,7 +1,7 @@
 -- The greedy topology: each merge joins the two live clusters whose merging costs the least wire.
 -- Edahiro, "A Clustering-Based Optimization Algorithm in Zero-Skew Routings", 1993; Chao and others
 -- 1992.
-use Rattle.std.specs.Prelude.{◌≡◌, ◌⊎◌, ℕ, ◌<◌, ℤ, ◌+ℤ◌, ◌-ℤ◌, ◌<ℤ◌, List, ◌++◌, length, take, Some, slice_get, ◌+◌}
+use Rattle.std.specs.Prelude.{◌≡◌, ◌⊎◌, ℕ, ℤ, ◌+ℤ◌, ◌-ℤ◌, ◌<ℤ◌, List, ◌++◌, length, take, Some, slice_get, ◌+◌}
 use Rattle.cts_model.specs.Types.{Sink, Merge}
 use Rattle.cts_model.specs.timing.EqualArrivals.{ComesBefore}
 use Rattle.cts_model.specs.tree.Regions.{IsDoubleReach}

@@ -1,4 +1,4 @@
-use Rattle.report_text.proofs.Vocabulary.{◌^◌, ◌∙◌, sym, subst, arith, HasSizeBelow, held_same}
+use Rattle.report_text.proofs.Vocabulary.{◌^◌, ◌∙◌, sym, subst, arith, IsBelow, held_same}
 use Rattle.report_text.proofs.SpelledFields.{scale_small}
 use Rattle.report_text.proofs.rules.scale_of.Goals as goal
 
@@ -6,10 +6,10 @@ pub returns-clause-value : goal.returns-clause-value
 returns-clause-value c =
     let small = scale_small c.args.grid.tech.now c.args.grid.period c.args.grid.small in
     let den = held_same c.den.result
-    (subst (HasSizeBelow (10 ^ 37)) (sym c.den.ensures.value) small.small_den)
+    (subst (IsBelow (10 ^ 37)) (sym c.den.ensures.value) small.small_den)
     ∙ c.den.ensures.value in
     let grid = held_same c.steps_of_unit.result
-    (subst (HasSizeBelow (10 ^ 37)) (sym c.steps_of_unit.ensures) small.small_grid)
+    (subst (IsBelow (10 ^ 37)) (sym c.steps_of_unit.ensures) small.small_grid)
     ∙ c.steps_of_unit.ensures in
     λ i. record { den = den i; grid = grid i }
 
