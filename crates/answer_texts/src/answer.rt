@@ -47,10 +47,6 @@ impl Answer {
     }
 
     /// The answer for constraints that forbid every period.
-    ///
-    /// # Errors
-    ///
-    /// Memory was refused.
     pub fn never(alloc: Global, circuit: &Circuit, cycle: &[Constraint]) -> Result<Answer, NoMemory>
         requires { (tech : Tech) × IsForbidding circuit.now tech cycle.now }
         ensures ending { IfOk result (λ answer. ending_status answer.ending ≡ 1) }

@@ -9,10 +9,6 @@ use report_text::push_count;
 use std::alloc::Global;
 
 /// The schedule in which the clock reaches each of so many registers at 0.
-///
-/// # Errors
-///
-/// Memory was refused.
 pub fn all_at_zero(alloc: Global, registers: usize) -> Result<Schedule, NoMemory>
     ensures { IfOk result (λ schedule. schedule ≡ all_at_zero registers) }
 {
@@ -22,10 +18,6 @@ pub fn all_at_zero(alloc: Global, registers: usize) -> Result<Schedule, NoMemory
 
 /// Appends the lines of the registers: how many there are, and each of them in order with its
 /// arrival in ticks.
-///
-/// # Errors
-///
-/// Memory was refused.
 pub fn push_arrivals(
     out: &mut Vec<u8>,
     circuit: &Circuit,

@@ -13,10 +13,6 @@ use report_text::{push_count, push_line, push_period};
 use std::alloc::Global;
 
 /// The answer for the least schedule that serves all corners, or for that no period will do.
-///
-/// # Errors
-///
-/// Memory was refused.
 pub fn corners_answer(
     alloc: Global,
     circuit: &Circuit,

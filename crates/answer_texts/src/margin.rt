@@ -11,10 +11,6 @@ use report_text::{push_cycle, push_line, push_period};
 use std::alloc::Global;
 
 /// The text for what is spared at a period.
-///
-/// # Errors
-///
-/// Memory was refused.
 pub fn margin_text(
     alloc: Global,
     circuit: &Circuit,

@@ -11,10 +11,6 @@ use report_text::{push_line, push_period, push_show, push_value};
 use std::alloc::Global;
 
 /// The answer for the least period that any arrivals allow, or for that there is none.
-///
-/// # Errors
-///
-/// Memory was refused.
 pub fn period_answer(
     alloc: Global,
     circuit: &Circuit,
@@ -41,10 +37,6 @@ pub fn period_answer(
 }
 
 /// Appends the line for the least period at equal arrivals, in ticks.
-///
-/// # Errors
-///
-/// Memory was refused.
 pub fn push_zero(out: &mut Vec<u8>, outcome: &ZeroSkew) -> Result<(), NoMemory>
     ensures { OnOk result (out.new.items ≡ out.old.items ++ line_of (zero_line outcome.now)) }
 {
@@ -56,10 +48,6 @@ pub fn push_zero(out: &mut Vec<u8>, outcome: &ZeroSkew) -> Result<(), NoMemory>
 }
 
 /// Appends the lines of a least period, with and without skew, and of what shows the one with it.
-///
-/// # Errors
-///
-/// Memory was refused.
 pub fn push_found(
     out: &mut Vec<u8>,
     circuit: &Circuit,

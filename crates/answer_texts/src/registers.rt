@@ -7,10 +7,6 @@ use report_text::{push_count, push_register};
 
 /// Appends the lines of the registers: how many there are, and each of them in order, with when the
 /// clock reaches it and what it has to spare, in ticks.
-///
-/// # Errors
-///
-/// Memory was refused.
 pub fn push_registers(
     out: &mut Vec<u8>,
     circuit: &Circuit,

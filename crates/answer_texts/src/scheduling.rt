@@ -12,10 +12,6 @@ use outcomes::ScheduleOutcome;
 use std::alloc::Global;
 
 /// The answer for the least schedule of a circuit, or for that no period will do.
-///
-/// # Errors
-///
-/// Memory was refused.
 pub fn schedule_answer(
     alloc: Global,
     circuit: &Circuit,

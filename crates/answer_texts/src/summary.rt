@@ -9,10 +9,6 @@ use report_text::{push_count, push_line, push_period, push_total};
 use std::alloc::Global;
 
 /// The summary of a report over this number of registers.
-///
-/// # Errors
-///
-/// Memory was refused.
 pub fn summary_text(alloc: Global, registers: u32, report: &Report) -> Result<Vec<u8>, NoMemory>
     requires { (tech : Tech) × IsWithinBounds tech report.now }
     ensures { IfOk result (λ text. text.items ≡ text_of (summary_lines registers report.now)) }

@@ -11,10 +11,6 @@ use report_text::write_report;
 use std::alloc::Global;
 
 /// The answer for the clock tree of a problem, or for that no period will do.
-///
-/// # Errors
-///
-/// Memory was refused.
 pub fn tree_answer(alloc: Global, problem: &Problem, outcome: &Outcome) -> Result<Answer, NoMemory>
     requires { (topology : Topology) × IsOutcomeWith problem.now topology outcome.now }
     ensures ending { IfOk result (λ answer.

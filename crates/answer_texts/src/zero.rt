@@ -10,10 +10,6 @@ use report_text::{push_constraint, push_line};
 use std::alloc::Global;
 
 /// The text for the least period at equal arrivals.
-///
-/// # Errors
-///
-/// Memory was refused.
 pub fn zero_text(
     alloc: Global,
     circuit: &Circuit,

@@ -1,13 +1,13 @@
 //! `cts_schedule`: the least schedule of a circuit at its least period.
 
 ghost use Rattle.std.specs.Prelude.{◌≡◌, ◌≢◌, ℕ, List, IfOk, IfErr};
-ghost use Rattle.cts_c.specs.Vocabulary.{Circuit, Tech, IsLoop, text_of, JoinsMoreThan, period_outcome, HasSmallTimes, IsScheduleOutcome, TellBoth, IsHanded, IsTooLarge, IsNone, AreBothShort, RefusesSchedule, FailsFor, IsScheduleAnswer, IsScheduleText, IsEnding, IsFailure, IsStatus, ending_status, outcome_status, schedule_lines};
+ghost use Rattle.cts_c.specs.Vocabulary.{Circuit, Tech, IsLoop, JoinsMoreThan, TellBoth, IsHanded, IsTooLarge, IsNone, AreBothShort, RefusesSchedule, FailsFor, IsScheduleAnswer, IsScheduleText, IsEnding, IsFailure, IsStatus, ending_status};
 
 use crate::answer::hand_over;
 use crate::failure::Failure;
 use crate::texts::circuit_of;
 use answer_texts::{Answer, schedule_answer};
-use cts_engine::{ScheduleOutcome, schedule_of};
+use cts_engine::schedule_of;
 use cts_model::{Circuit, Tech};
 use std::alloc::Global;
 
@@ -70,17 +70,6 @@ fn circuit_answer(alloc: Global, circuit: &Circuit, tech: &Tech) -> Result<Answe
     ensures cause { IfErr result (FailsFor (JoinsMoreThan circuit.now 1048576)) }
 {
     let outcome = schedule_of(alloc, circuit, tech)?;
-    written(alloc, circuit, &outcome)
-}
-
-// The answer for the least schedule of a circuit, or for that no period will do.
-fn written(alloc: Global, circuit: &Circuit, outcome: &ScheduleOutcome) -> Result<Answer, Failure>
-    requires outcome { (tech : Tech) × IsScheduleOutcome circuit.now tech outcome.now }
-    requires small { HasSmallTimes outcome.now }
-    ensures text { IfOk result (λ answer.
-        (ending_status answer.ending ≡ outcome_status (period_outcome outcome.now))
-        × (answer.text.items ≡ text_of (schedule_lines circuit.now outcome.now))) }
-    ensures memory { IfErr result (λ failure. failure ≡ Failure.NoMemory) }
-{
-    Ok(schedule_answer(alloc, circuit, outcome)?)
+    let answer = schedule_answer(alloc, circuit, &outcome)?;
+    Ok(answer)
 }

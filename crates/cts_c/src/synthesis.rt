@@ -1,13 +1,13 @@
 //! `cts_synth`: the clock tree of a problem.
 
 ghost use Rattle.std.specs.Prelude.{◌≡◌, ◌≢◌, ℕ, List, IfOk, IfErr};
-ghost use Rattle.cts_c.specs.Vocabulary.{Problem, Topology, text_of, JoinsMoreThan, IsOutcomeWith, TellAll, IsHanded, IsTooLarge, IsNone, AreAllShort, RefusesTree, FailsFor, IsEnding, IsFailure, IsStatus, ending_status, synthesis_lines, synthesis_status, IsSynthText, IsTreeAnswer};
+ghost use Rattle.cts_c.specs.Vocabulary.{Problem, JoinsMoreThan, TellAll, IsHanded, IsTooLarge, IsNone, AreAllShort, RefusesTree, FailsFor, IsEnding, IsFailure, IsStatus, ending_status, IsSynthText, IsTreeAnswer};
 
 use crate::answer::hand_over;
 use crate::failure::Failure;
 use crate::texts::problem_of;
 use answer_texts::{Answer, tree_answer};
-use cts_engine::{Outcome, synthesize};
+use cts_engine::synthesize;
 use cts_model::Problem;
 use std::alloc::Global;
 
@@ -70,16 +70,6 @@ fn problem_answer(alloc: Global, problem: &Problem) -> Result<Answer, Failure>
     ensures cause { IfErr result (FailsFor (JoinsMoreThan problem.now.circuit 1048576)) }
 {
     let outcome = synthesize(alloc, problem)?;
-    written(alloc, problem, &outcome)
-}
-
-// The answer for the clock tree of a problem, or for that no period will do.
-fn written(alloc: Global, problem: &Problem, outcome: &Outcome) -> Result<Answer, Failure>
-    requires { (topology : Topology) × IsOutcomeWith problem.now topology outcome.now }
-    ensures text { IfOk result (λ answer.
-        (ending_status answer.ending ≡ synthesis_status outcome.now)
-        × (answer.text.items ≡ text_of (synthesis_lines problem.now.circuit outcome.now))) }
-    ensures memory { IfErr result (λ failure. failure ≡ Failure.NoMemory) }
-{
-    Ok(tree_answer(alloc, problem, outcome)?)
+    let answer = tree_answer(alloc, problem, &outcome)?;
+    Ok(answer)
 }

@@ -1,4 +1,5 @@
-//! What the texts of a call tell. A caller may hand in a text of any length.
+//! What the texts of a call tell. A caller may hand in a text of any length; one that is too long or
+//! has a fault is refused.
 
 ghost use Rattle.std.specs.Prelude.{◌≡◌, ◌↔◌, ℕ, List, IsTrue, IfOk, IfErr};
 ghost use Rattle.cts_c.specs.Vocabulary.{Circuit, Problem, Tech, IsLoop, TellBoth, TellAll, IsShort, AreBothShort, AreAllShort, AreBothRefused, AreRefused, FailsFor};
@@ -19,10 +20,6 @@ pub fn is_short(text: &[u8]) -> bool
 }
 
 /// The circuit that a netlist and a delay table tell, with its delays.
-///
-/// # Errors
-///
-/// A text is too long or has a fault, or memory was refused.
 pub fn circuit_of(alloc: Global, bench: &[u8], tech: &[u8]) -> Result<Denoted, Failure>
     ensures ok { IfOk result (λ denoted. TellBoth bench.now tech.now denoted.circuit denoted.tech) }
     ensures acyclic { IfOk result (λ denoted.
@@ -39,10 +36,6 @@ pub fn circuit_of(alloc: Global, bench: &[u8], tech: &[u8]) -> Result<Denoted, F
 }
 
 /// The problem that a netlist, a delay table and a placement tell.
-///
-/// # Errors
-///
-/// A text is too long or has a fault, or memory was refused.
 pub fn problem_of(alloc: Global, bench: &[u8], tech: &[u8], pl: &[u8]) -> Result<Problem, Failure>
     ensures short { IfOk result (λ _. AreAllShort bench.now tech.now pl.now) }
     ensures ok { IfOk result (TellAll bench.now tech.now pl.now) }

@@ -1,7 +1,8 @@
-//! What each command answers on the circuit or the problem that its files tell.
+//! What each command answers on the circuit or the problem that its files tell. It fails where paths
+//! join too many pairs of registers, or for want of memory.
 
 ghost use Rattle.std.specs.Prelude.{◌≡◌, ◌≤◌, ℕ, List, true, length, IfOk, IfErr};
-ghost use Rattle.cts_program.specs.Vocabulary.{fraction_text, Topology, IsLoop, text_of, JoinsMoreThan, IsMarginPeriod, IsTopology, is_period, Failure, IsOutcomeWith, IsCornersText, ending_status, IsMarginText, IsPeriodText, IsScheduleText, IsSynthText, IsEmbedText, synthesis_lines, synthesis_status, IsZeroText, FailsCircuit};
+ghost use Rattle.cts_program.specs.Vocabulary.{fraction_text, IsLoop, JoinsMoreThan, IsMarginPeriod, IsTopology, is_period, IsCornersText, ending_status, IsMarginText, IsPeriodText, IsScheduleText, IsSynthText, IsEmbedText, IsZeroText, FailsCircuit};
 
 use crate::reading::Corners;
 use answer_texts::{
@@ -10,17 +11,13 @@ use answer_texts::{
 use corners::corners_of;
 use cts_base::{Fraction, read_fraction};
 use cts_engine::{
-    Denoted, Outcome, margin_of, period_of, schedule_of, synthesize, synthesize_with, zero_of,
+    Denoted, margin_of, period_of, schedule_of, synthesize, synthesize_with, zero_of,
 };
 use cts_model::{Problem, Topology};
 use failure_lines::Failure;
 use std::alloc::Global;
 
 /// The least period of a circuit at equal arrivals.
-///
-/// # Errors
-///
-/// Too many pairs of registers are joined by paths, or memory was refused.
 pub fn zero(alloc: Global, denoted: &Denoted) -> Result<Answer, Failure>
     requires { (loop : List ℕ) → IsLoop denoted.now.circuit.signals loop → ⊥ }
     ensures few { IfOk result (λ _. JoinsMoreThan denoted.now.circuit 1048576 → ⊥) }
@@ -34,10 +31,6 @@ pub fn zero(alloc: Global, denoted: &Denoted) -> Result<Answer, Failure>
 }
 
 /// The least period of a circuit, whenever the clock reaches each register.
-///
-/// # Errors
-///
-/// Too many pairs of registers are joined by paths, or memory was refused.
 pub fn period(alloc: Global, denoted: &Denoted) -> Result<Answer, Failure>
     requires { (loop : List ℕ) → IsLoop denoted.now.circuit.signals loop → ⊥ }
     ensures few { IfOk result (λ _. JoinsMoreThan denoted.now.circuit 1048576 → ⊥) }
@@ -50,10 +43,6 @@ pub fn period(alloc: Global, denoted: &Denoted) -> Result<Answer, Failure>
 }
 
 /// The least schedule of a circuit at its least period.
-///
-/// # Errors
-///
-/// Too many pairs of registers are joined by paths, or memory was refused.
 pub fn schedule(alloc: Global, denoted: &Denoted) -> Result<Answer, Failure>
     requires { (loop : List ℕ) → IsLoop denoted.now.circuit.signals loop → ⊥ }
     ensures few { IfOk result (λ _. JoinsMoreThan denoted.now.circuit 1048576 → ⊥) }
@@ -93,10 +82,6 @@ fn fraction(word: &str) -> Fraction
 }
 
 /// The clock tree of a problem.
-///
-/// # Errors
-///
-/// Too many pairs of registers are joined by paths, or memory was refused.
 pub fn synth(alloc: Global, problem: &Problem) -> Result<Answer, Failure>
     ensures few { IfOk result (λ _. JoinsMoreThan problem.now.circuit 1048576 → ⊥) }
     ensures text { IfOk result (λ answer.
@@ -104,14 +89,11 @@ pub fn synth(alloc: Global, problem: &Problem) -> Result<Answer, Failure>
     ensures cause { IfErr result (FailsCircuit problem.now.circuit) }
 {
     let outcome = synthesize(alloc, problem)?;
-    written(alloc, problem, &outcome)
+    let answer = tree_answer(alloc, problem, &outcome)?;
+    Ok(answer)
 }
 
 /// The clock tree of a problem by this topology.
-///
-/// # Errors
-///
-/// Too many pairs of registers are joined by paths, or memory was refused.
 pub fn embed(alloc: Global, problem: &Problem, topology: &Topology) -> Result<Answer, Failure>
     requires { IsTopology (length problem.now.circuit.registers) topology.now.merges }
     ensures few { IfOk result (λ _. JoinsMoreThan problem.now.circuit 1048576 → ⊥) }
@@ -120,25 +102,11 @@ pub fn embed(alloc: Global, problem: &Problem, topology: &Topology) -> Result<An
     ensures cause { IfErr result (FailsCircuit problem.now.circuit) }
 {
     let outcome = synthesize_with(alloc, problem, topology)?;
-    written(alloc, problem, &outcome)
-}
-
-// The answer for the clock tree of a problem, or for that no period will do.
-fn written(alloc: Global, problem: &Problem, outcome: &Outcome) -> Result<Answer, Failure>
-    requires { (topology : Topology) × IsOutcomeWith problem.now topology outcome.now }
-    ensures text { IfOk result (λ answer.
-        (ending_status answer.ending ≡ synthesis_status outcome.now)
-        × (answer.text.items ≡ text_of (synthesis_lines problem.now.circuit outcome.now))) }
-    ensures memory { IfErr result (λ failure. failure ≡ Failure.NoMemory) }
-{
-    Ok(tree_answer(alloc, problem, outcome)?)
+    let answer = tree_answer(alloc, problem, &outcome)?;
+    Ok(answer)
 }
 
 /// The least period and the least schedule of a circuit that serve the delay tables of all corners.
-///
-/// # Errors
-///
-/// Too many pairs of registers are joined by paths, or memory was refused.
 pub fn corners(alloc: Global, told: &Corners) -> Result<Answer, Failure>
     requires acyclic { (loop : List ℕ) → IsLoop told.now.circuit.signals loop → ⊥ }
     requires some { 1 ≤ length told.now.techs }

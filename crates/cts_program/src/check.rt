@@ -12,11 +12,7 @@ use failure_lines::{Failure, reason_failure};
 use report_text::push_line;
 use std::alloc::Global;
 
-/// That a report, whoever made it, is shown for a problem.
-///
-/// # Errors
-///
-/// A reason stands against the report, or memory was refused.
+/// That a report, whoever made it, is shown for a problem, or the reason that stands against it.
 pub fn check(alloc: Global, problem: &Problem, report: &Report) -> Result<Answer, Failure>
     requires size { IsOfSize problem.now.circuit report.now }
     requires bounds { IsWithinBounds problem.now.tech report.now }

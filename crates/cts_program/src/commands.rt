@@ -1,5 +1,6 @@
 //! What each command answers that reads files: they are read in their order, and what they tell is
-//! answered.
+//! answered. It fails for the first file that can't be read or is refused, for what the files tell
+//! together, or for want of memory.
 
 ghost use Rattle.std.specs.Prelude.{◌≡◌, ◌≤◌, true, length};
 ghost use Rattle.command_line.specs.declared.command.Command.TheVariants as commands;
@@ -19,11 +20,6 @@ use failure_lines::Failure;
 use std::alloc::Global;
 
 /// What `zero` answers, with the delay table in a file or the built-in one.
-///
-/// # Errors
-///
-/// The first file that can't be read or is refused, why what they tell is refused, or want of
-/// memory.
 pub fn zero_command<I: Inputs>(
     alloc: Global,
     inputs: &mut I,
@@ -44,11 +40,6 @@ pub fn zero_command<I: Inputs>(
 }
 
 /// What `period` answers.
-///
-/// # Errors
-///
-/// The first file that can't be read or is refused, why what they tell is refused, or want of
-/// memory.
 pub fn period_command<I: Inputs>(
     alloc: Global,
     inputs: &mut I,
@@ -62,11 +53,6 @@ pub fn period_command<I: Inputs>(
 }
 
 /// What `schedule` answers.
-///
-/// # Errors
-///
-/// The first file that can't be read or is refused, why what they tell is refused, or want of
-/// memory.
 pub fn schedule_command<I: Inputs>(
     alloc: Global,
     inputs: &mut I,
@@ -80,11 +66,6 @@ pub fn schedule_command<I: Inputs>(
 }
 
 /// What `margin` answers at this period.
-///
-/// # Errors
-///
-/// The first file that can't be read or is refused, why what they tell is refused, or want of
-/// memory.
 pub fn margin_command<I: Inputs>(
     alloc: Global,
     inputs: &mut I,
@@ -101,11 +82,6 @@ pub fn margin_command<I: Inputs>(
 }
 
 /// What `synth` answers.
-///
-/// # Errors
-///
-/// The first file that can't be read or is refused, why what they tell is refused, or want of
-/// memory.
 pub fn synth_command<I: Inputs>(
     alloc: Global,
     inputs: &mut I,
@@ -120,11 +96,6 @@ pub fn synth_command<I: Inputs>(
 }
 
 /// What `check` answers to a report.
-///
-/// # Errors
-///
-/// The first file that can't be read or is refused, why what they tell is refused, or want of
-/// memory.
 pub fn check_command<I: Inputs>(
     alloc: Global,
     inputs: &mut I,
@@ -143,11 +114,6 @@ pub fn check_command<I: Inputs>(
 }
 
 /// What `embed` answers for a topology.
-///
-/// # Errors
-///
-/// The first file that can't be read or is refused, why what they tell is refused, or want of
-/// memory.
 pub fn embed_command<I: Inputs>(
     alloc: Global,
     inputs: &mut I,
@@ -166,11 +132,6 @@ pub fn embed_command<I: Inputs>(
 }
 
 /// What `moves` answers for the moves in a file.
-///
-/// # Errors
-///
-/// The first file that can't be read or is refused, why what they tell is refused, or want of
-/// memory.
 pub fn moves_command<I: Inputs>(
     alloc: Global,
     inputs: &mut I,
@@ -189,11 +150,6 @@ pub fn moves_command<I: Inputs>(
 }
 
 /// What `corners` answers for these delay tables.
-///
-/// # Errors
-///
-/// The first file that can't be read or is refused, why what they tell is refused, or want of
-/// memory.
 pub fn corners_command<I: Inputs>(
     alloc: Global,
     inputs: &mut I,

@@ -16,10 +16,6 @@ use failure_lines::Failure;
 use std::alloc::Global;
 
 /// The summary of the demonstration with this number of registers and this seed.
-///
-/// # Errors
-///
-/// The texts are refused, too many pairs of registers are joined, or memory was refused.
 pub fn demo(alloc: Global, registers: &str, seed: &str) -> Result<Answer, Failure>
     requires registers { is_number_within 2 1000 registers.now ≡ true }
     requires seed { is_number_within 0 999 seed.now ≡ true }

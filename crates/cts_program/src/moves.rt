@@ -14,10 +14,6 @@ use std::alloc::Global;
 
 /// How long the clock tree of a problem is, and how long it is after each of these moves, in
 /// length units.
-///
-/// # Errors
-///
-/// Too many pairs of registers are joined by paths, or memory was refused.
 pub fn moves(alloc: Global, problem: &Problem, moves: &Listed<Move>) -> Result<Answer, Failure>
     requires { All (IsNearMove (length problem.now.circuit.registers)) moves.now }
     ensures few { IfOk result (λ _. JoinsMoreThan problem.now.circuit 1048576 → ⊥) }

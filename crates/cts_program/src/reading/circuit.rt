@@ -11,10 +11,6 @@ use failure_lines::Failure;
 use std::alloc::Global;
 
 /// What the netlist in a file denotes, with the delays in another.
-///
-/// # Errors
-///
-/// The first file that can't be read or is refused, or want of memory.
 pub fn read_circuit<I: Inputs>(
     alloc: Global,
     inputs: &mut I,

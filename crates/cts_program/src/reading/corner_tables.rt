@@ -22,10 +22,6 @@ pub struct Corners {
 
 /// What the netlist in a file denotes, with the delay table of each corner in a file of its own.
 /// Each table is judged as it is read.
-///
-/// # Errors
-///
-/// The first file that can't be read or is refused, or want of memory.
 pub fn read_corners<I: Inputs>(
     alloc: Global,
     inputs: &mut I,

@@ -1,4 +1,5 @@
-//! A kind of file that a command reads, and reading one.
+//! A kind of file that a command reads, and reading one. It fails where the file can't be read, is
+//! too long or has a fault, or for want of memory.
 
 ghost use Rattle.std.specs.Prelude.{◌≡◌, ◌⊎◌, ℕ, List, IfOk, IfErr};
 ghost use Rattle.cts_program.specs.Vocabulary.{Failure, FileKind, Means, Refuses, IsShortFile, IsRead, IsStep, IsUnread, OrMemory, Told};
@@ -47,10 +48,6 @@ pub trait Document {
 }
 
 /// What the file of this name tells. It has at most 16 MiB.
-///
-/// # Errors
-///
-/// The file can't be read, is too long or has a fault, or memory was refused.
 pub fn read_document<D: Document + Drop, I: Inputs>(
     alloc: Global,
     inputs: &mut I,

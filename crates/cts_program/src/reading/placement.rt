@@ -44,14 +44,8 @@ fn no_place(alloc: Global, name: &[u8]) -> Failure
 }
 
 /// The same bytes once more.
-///
-/// # Errors
-///
-/// Memory was refused.
 pub fn copied(alloc: Global, name: &[u8]) -> Result<Name, NoMemory>
     ensures { IfOk result (λ copy. copy ≡ name.now) }
 {
-    let mut bytes = Vec::new(alloc);
-    bytes.extend_from_slice(name)?;
-    Ok(Listed::from_vec(bytes))
+    Ok(Listed::from_vec(Vec::from_slice(alloc, name)?))
 }

@@ -1,4 +1,4 @@
-use Rattle.cts_c.proofs.Vocabulary.{subst, sym, IfErr-weaker, IfOk-weaker, err_from_is_err_and, JoinsMoreThan, FailsFor}
+use Rattle.cts_c.proofs.Vocabulary.{err_from_is_err_and}
 use Rattle.cts_c.proofs.RefusalLemmas.{many_pairs}
 use Rattle.cts_c.proofs.scheduling.circuit_answer.Goals as goal
 
@@ -8,17 +8,12 @@ returns-in_err-outcome-clause-cause c =
     rw (p.1, p.2) (many_pairs c.args.circuit.now _ c.in_err-outcome.ensures.many)
 
 pub returns-clause-text : goal.returns-clause-text
-returns-clause-text c = IfOk-weaker c.written.result _ _ (λ answer is. record {
+returns-clause-text c = record {
   few = c.in_ok-outcome.ensures.few;
   outcome = c.in_ok-outcome.outcome;
   made = c.in_ok-outcome.ensures.ok;
   lowest = c.in_ok-outcome.ensures.lowest;
   never = c.in_ok-outcome.ensures.never;
-  status_is = is.0;
-  spelled = is.1;
-}) c.written.ensures.text
-
-pub returns-clause-cause : goal.returns-clause-cause
-returns-clause-cause c = IfErr-weaker c.written.result _ _ (λ failure is.
-    subst (FailsFor (JoinsMoreThan c.args.circuit.now 1048576)) (sym is) tt)
-    c.written.ensures.memory
+  status_is = c.in_ok-answer.ensures.ending;
+  spelled = c.in_ok-answer.ensures.text;
+}
