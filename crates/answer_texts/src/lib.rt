@@ -1,4 +1,4 @@
-//! The text of each command's answer, and how an answer ends. A call fails for want of memory alone.
+//! The text of each command's answer, and how an answer ends. Calls fail for want of memory alone.
 #![tactic(auto)]
 
 mod answer;

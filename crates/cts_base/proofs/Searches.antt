@@ -22,7 +22,8 @@ first_position test text (Some place) is = sym (position_is test text place is.0
     (λ k before. false_from_ne_true _ (is.0.before k (omega arith) before)) is.1)
 first_position test text None is =
     let at = position_or_len_is test text (length text) 0 (omega arith)
-    (λ k within. false_from_ne_true _ (is k (omega arith) within)) (λ none. absurd (omega (arith, none))) in
+    (λ k within. false_from_ne_true _ (is k (omega arith) within))
+    (λ none. absurd (omega (arith, none))) in
     grind (arith, common_steps)
 
 -- neither of two bytes
@@ -40,16 +41,21 @@ module _ (text : List ℕ) (end : ℕ) (first : IsFirstByte (is_byte2 10 35) tex
   feed_first feed = position_is is_line_feed text end first.0.high (λ k before. (here k before).0)
       (grind (arith, nat_tests))
 
+  -- a place of a part of this line
+  within : (size k : ℕ) → k < length (take size (take end text)) → (k < size) × (k < end)
+  within size k less =
+      let part = length-take size (take end text) in
+      let whole = length-take end text in
+      (omega (arith, less, part), omega (arith, less, part, whole))
+
   -- no part of this line has a comment
   no_hash : (size : ℕ) → before_hash (take size (take end text)) ≡ take size (take end text)
   no_hash size =
       let line = take size (take end text) in
-      let long = length-take size (take end text) in
-      let whole = length-take end text in
       let all = position_or_len_is is_hash line (length line) 0 (omega arith)
-      (λ k within. ap is_hash (get_or-take size (take end text) k 0 (omega (arith, within, long, whole))
-      ∙ get_or-take end text k 0 (omega (arith, within, long, whole)))
-      ∙ (here k (omega (arith, within, long, whole))).1) (λ none. absurd (omega (arith, none))) in
+      (λ k less. let (small, before) = within size k less in
+      ap is_hash (get_or-take size (take end text) k 0 small ∙ get_or-take end text k 0 before)
+      ∙ (here k before).1) (λ none. absurd (omega (arith, none))) in
       ap (λ n. take n line) all ∙ take_all (length line) line (omega arith)
 
   -- nor has it without its end

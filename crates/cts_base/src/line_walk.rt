@@ -7,7 +7,7 @@ use memchr::{memchr, memchr2};
 use std::marker::Model;
 
 /// A line of a text.
-#[derive(Clone, Copy, Debug)]
+#[derive(Clone, Copy, Debug, PartialEq, Eq)]
 pub struct Line<'a> {
     /// Counted from 1.
     pub number: u32,

@@ -1,5 +1,5 @@
-//! What the texts of a call tell. A caller may hand in a text of any length; one that is too long or
-//! has a fault is refused.
+//! What the texts of a call tell. A caller may hand in a text of any length; one that is too long
+//! or has a fault is refused.
 
 ghost use Rattle.std.specs.Prelude.{◌≡◌, ◌↔◌, ℕ, List, IsTrue, IfOk, IfErr};
 ghost use Rattle.cts_c.specs.Vocabulary.{Circuit, Problem, Tech, IsLoop, TellBoth, TellAll, IsShort, AreBothShort, AreAllShort, AreBothRefused, AreRefused, FailsFor};

@@ -1,5 +1,5 @@
-//! What each command answers on the circuit or the problem that its files tell. It fails where paths
-//! join too many pairs of registers, or for want of memory.
+//! What each command answers on the circuit or the problem that its files tell. It fails where
+//! paths join too many pairs of registers, or for want of memory.
 
 ghost use Rattle.std.specs.Prelude.{◌≡◌, ◌≤◌, ℕ, List, true, length, IfOk, IfErr};
 ghost use Rattle.cts_program.specs.Vocabulary.{fraction_text, IsLoop, JoinsMoreThan, IsMarginPeriod, IsTopology, is_period, IsCornersText, ending_status, IsMarginText, IsPeriodText, IsScheduleText, IsSynthText, IsEmbedText, IsZeroText, FailsCircuit};

@@ -27,7 +27,8 @@ impl<'a> Entry<'a> {
     /// Reads a line; `begun` says that an earlier one isn't blank. `None` says that it has no form
     /// of the format.
     pub(crate) fn of(begun: bool, line: Line<'a>) -> Option<Entry<'a>>
-        ensures said { option_map said_by result ≡ entry_of_words begun (words_in line.entry.text.now) }
+        ensures said { option_map said_by result
+            ≡ entry_of_words begun (words_in line.entry.text.now) }
         ensures written { IfSome result
             (λ entry. is_written (said_by entry) ≡ has_words (words_in line.entry.text.now)) }
     {
