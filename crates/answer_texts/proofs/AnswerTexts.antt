@@ -1,6 +1,6 @@
 -- The text of each command for a circuit and its delays is one of counted lines, and its status
 -- says whether a period is admitted.
-use Rattle.answer_texts.proofs.Vocabulary.{◌≡◌, ◌<◌, ◌≤◌, inl, inr, ℕ, zero, suc, ℤ, true, List, [], ◌∷◌, ◌++◌, length, map, nat_abs, refl, ap, sym, subst, append-nil, arith, pos, ints, length-map, length-replicate, All-weaker, Fraction, Circuit, Constraint, PeriodShow, Problem, First, Second, Tech, Topology, IsBetweenRegisters, report_lines, Words, text_of, show_lines, IsCycle, HasNoPeriod, IsForbidding, IsLeastFraction, tails_within, CornersOutcome, AreOfCorners, IsCommonShow, IsCornersOutcome, Form, MarginOutcome, IsMarginOutcome, wire_line, report_lines_are, all_at_zero, numbered_line_at, numbered_lines, common_show_lines, corners_lines, corners_status, IsCornersText, summary_lines, IsSummaryText, IsDemoText, IsTreeText, IsSynthesisText, IsEmbeddingText, margin_lines, IsMarginText, period_lines, never_lines, outcome_status, IsPeriodText, schedule_lines, IsScheduleText, IsFoundOrNever, IsSynthText, IsEmbedText, zero_lines, IsZeroText}
+use Rattle.answer_texts.proofs.Vocabulary.{◌≡◌, ◌<◌, ◌≤◌, inl, inr, ℕ, zero, suc, ℤ, true, List, [], ◌∷◌, ◌++◌, length, map, nat_abs, refl, ap, sym, subst, append-nil, arith, pos, ints, length-map, length-replicate, All-weaker, Fraction, Circuit, Constraint, PeriodShow, Problem, First, Second, Tech, Topology, IsBetweenRegisters, report_lines, Words, text_of, show_lines, IsCycle, HasNoPeriod, IsForbidding, IsLeastFraction, tails_within, CornersOutcome, AreOfCorners, IsCommonShow, IsCornersOutcome, Form, MarginOutcome, IsMarginOutcome, wire_line, report_lines_are, all_at_zero, cornered_line_at, cornered_lines, common_show_lines, corners_lines, corners_status, IsCornersText, summary_lines, IsSummaryText, IsDemoText, IsTreeText, IsSynthesisText, IsEmbeddingText, margin_lines, IsMarginText, period_lines, never_lines, outcome_status, IsPeriodText, schedule_lines, IsScheduleText, IsFoundOrNever, IsSynthText, IsEmbedText, zero_lines, IsZeroText}
 use Rattle.cts_model.specs.declared.period.PeriodShow.TheVariants as shows
 use Rattle.answer_texts.specs.Types.{Point}
 use Rattle.cts_model.specs.Vocabulary.{IsWithinBounds, grid_of}
@@ -292,7 +292,7 @@ module _ (circuit : Circuit) (techs : List Tech) where
       → AreCounted (1 ∷ []) rest
       → AreCounted (1 ∷ 1 ∷ []) (common_show_lines circuit shown corners ++ rest)
   counted_shown period (shows.Cycle cycle) corners shown counted =
-      counted_below (numbered_line_at circuit cycle corners) (length cycle)
+      counted_below (cornered_line_at circuit cycle corners) (length cycle)
       (few_of_corners cycle corners shown.of_corners shown.shows.is_cycle) counted
   counted_shown period shows.Floor corners shown counted = counted_section [] refl counted
 
@@ -322,8 +322,8 @@ module _ (circuit : Circuit) (techs : List Tech) where
     each = corners_lines_are circuit (outcomes.Never cycle corners);
     some = omega arith;
     counted = counted_line (subst (AreCounted (1 ∷ []))
-        (append-nil (numbered_lines circuit cycle corners))
-        (counted_below (numbered_line_at circuit cycle corners) (length cycle)
+        (append-nil (cornered_lines circuit cycle corners))
+        (counted_below (cornered_line_at circuit cycle corners) (length cycle)
         (few_of_corners cycle corners serves.of_corners serves.forbids.is_cycle) counted_none));
     says = inr (refl, none_where_forbidden circuit techs cycle corners serves);
     spelled = spelled;

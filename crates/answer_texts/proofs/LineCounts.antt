@@ -8,7 +8,7 @@ use Rattle.std.proofs.lemmas.Map.Views.{Contains-from_any}
 use Rattle.std.proofs.lemmas.Map.Steps.{length-le_from_distinct_below}
 use Rattle.answer_texts.specs.Types.{Version}
 use Rattle.cts_model.specs.Vocabulary.{register_line_at}
-use Rattle.answer_texts.specs.ScheduleTexts.{register_line_at as register_line_of, register_lines}
+use Rattle.answer_texts.specs.ScheduleTexts.{scheduled_line_at as register_line_of, register_lines}
 use Rattle.answer_texts.proofs.CountedLines.{number_in, AreCounted, counted_none, counted_section, counted_line, counted_alone}
 
 -- ---- small counts

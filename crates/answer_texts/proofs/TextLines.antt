@@ -1,5 +1,5 @@
 -- The lines of each text are lines, as those of reports are.
-use Rattle.answer_texts.proofs.Vocabulary.{ℕ, ℤ, pos, Bool, true, false, List, [], ◌∷◌, ◌++◌, ◌+◌, length, map, slice_index_or, codes, None, arith, range_with_len, Fraction, Circuit, Constraint, PeriodShow, Report, First, Schedule, Slack, Tech, cycle_lines, show_lines, wire_line, IsLine, AreLines, appended, mapped, constraint_is, count_is, shown_are, CornersOutcome, MarginOutcome, all_at_zero, arrival_line, arrival_lines, numbered_line, numbered_line_at, numbered_lines, common_show_lines, corners_lines, summary_lines, margin_lines, found_lines, never_lines, register_line_at, register_lines, zero_lines}
+use Rattle.answer_texts.proofs.Vocabulary.{ℕ, ℤ, pos, Bool, true, false, List, [], ◌∷◌, ◌++◌, ◌+◌, length, map, slice_index_or, codes, None, arith, range_with_len, Fraction, Circuit, Constraint, PeriodShow, Report, First, Schedule, Slack, Tech, cycle_lines, show_lines, wire_line, IsLine, AreLines, appended, mapped, constraint_is, count_is, shown_are, CornersOutcome, MarginOutcome, all_at_zero, arrival_line, arrival_lines, cornered_line, cornered_line_at, cornered_lines, common_show_lines, corners_lines, summary_lines, margin_lines, found_lines, never_lines, scheduled_line_at, register_lines, zero_lines}
 use Rattle.cts_model.specs.declared.period.PeriodShow.TheVariants as shows
 use Rattle.answer_texts.specs.Types.{ZeroSkew, Fails, Setup}
 use Rattle.cts_model.specs.Vocabulary.{arrival_of}
@@ -19,11 +19,11 @@ module _ (circuit : Circuit) where
       → AreLines (register_lines circuit schedule slacks)
   register_lines_are schedule slacks = (
     count_is (codes "registers") (length schedule.at) (search arith),
-    mapped IsLine (register_line_at circuit schedule slacks)
+    mapped IsLine (scheduled_line_at circuit schedule slacks)
         (range_with_len 0 (length schedule.at)) line_is,
   )
     where
-      line_is : (register : ℕ) → IsLine (register_line_at circuit schedule slacks register)
+      line_is : (register : ℕ) → IsLine (scheduled_line_at circuit schedule slacks register)
       line_is register =
           let slack = slice_index_or slacks register (record { setup = None; hold = None }) in (
             register_word circuit register,
@@ -119,7 +119,7 @@ module _ (circuit : Circuit) where
 
   -- a constraint with the number of its corner
   numbered_is : (setup : Bool) (tail head : ℕ) (weight : ℤ) (number : ℕ)
-      → IsLine (numbered_line circuit
+      → IsLine (cornered_line circuit
       (record { setup = setup; tail = tail; head = head; weight = weight }) number)
   numbered_is true tail head weight number =
       let is = constraint_is circuit
@@ -132,10 +132,10 @@ module _ (circuit : Circuit) where
 
   -- a cycle of such
   numbered_lines_are : (cycle : List Constraint) (corners : List ℕ)
-      → AreLines (numbered_lines circuit cycle corners)
+      → AreLines (cornered_lines circuit cycle corners)
   numbered_lines_are cycle corners = (
     (show_lines_are (shows.Cycle cycle)).0,
-    mapped IsLine (numbered_line_at circuit cycle corners) (range_with_len 0 (length cycle))
+    mapped IsLine (cornered_line_at circuit cycle corners) (range_with_len 0 (length cycle))
         (λ place.
         let constraint = constraint_at cycle place in
         numbered_is constraint.setup constraint.tail constraint.head constraint.weight

@@ -31,11 +31,11 @@ pub use Rattle.report_text.proofs.OneLine.{IsWord, IsLine, one_text}
 pub use Rattle.report_text.proofs.ReportWords.{report_lines_are, AreLines, appended, mapped, constraint_is, count_is, shown_are}
 pub use Rattle.report_text.specs.Values.{wire_line}
 pub use Rattle.answer_texts.specs.ArrivalTexts.{all_at_zero, CanPrint, arrival_line, arrival_lines}
-pub use Rattle.answer_texts.specs.CornerTexts.{numbered_line_at, numbered_lines, common_show_lines, corners_lines, corners_status, IsCornersText, numbered_line}
+pub use Rattle.answer_texts.specs.CornerTexts.{cornered_line_at, cornered_lines, common_show_lines, corners_lines, corners_status, IsCornersText, cornered_line}
 pub use Rattle.answer_texts.specs.DemoTexts.{summary_lines, IsSummaryText, IsDemoText}
 pub use Rattle.answer_texts.specs.Headline.{IsTreeText, IsSynthesisText, IsEmbeddingText}
 pub use Rattle.answer_texts.specs.MarginTexts.{margin_lines, IsMarginText}
 pub use Rattle.answer_texts.specs.PeriodTexts.{period_lines, never_lines, outcome_status, IsPeriodText, found_lines}
-pub use Rattle.answer_texts.specs.ScheduleTexts.{schedule_lines, IsScheduleText, register_line_at, register_lines}
+pub use Rattle.answer_texts.specs.ScheduleTexts.{schedule_lines, IsScheduleText, scheduled_line_at, register_lines}
 pub use Rattle.answer_texts.specs.SynthTexts.{IsFoundOrNever, IsSynthText, IsEmbedText, synthesis_lines, synthesis_status}
 pub use Rattle.answer_texts.specs.ZeroTexts.{zero_lines, IsZeroText}

@@ -13,23 +13,23 @@ use Rattle.corners.specs.CornerOutcomes.{IsCornersOutcome, HasLowestFirst}
 use Rattle.answer_texts.specs.ArrivalTexts.{arrival_lines}
 
 -- the line of a constraint, and after it the number of its corner
-abbrev pub numbered_line : Circuit → Constraint → (number : ℕ) → Words
-numbered_line circuit constraint number =
+abbrev pub cornered_line : Circuit → Constraint → (number : ℕ) → Words
+cornered_line circuit constraint number =
     line_for circuit constraint ++ signed_decimal (pos number) ∷ []
 
 -- that of the constraint at a place; its corner is counted from 1
-abbrev pub numbered_line_at : Circuit → List Constraint → (corners : List ℕ) → ℕ → Words
-numbered_line_at circuit cycle corners place =
-    numbered_line circuit (constraint_at cycle place) (slice_index_or corners place 0 + 1)
+abbrev pub cornered_line_at : Circuit → List Constraint → (corners : List ℕ) → ℕ → Words
+cornered_line_at circuit cycle corners place =
+    cornered_line circuit (constraint_at cycle place) (slice_index_or corners place 0 + 1)
 
 -- a cycle, and its constraints in order
-abbrev pub numbered_lines : Circuit → List Constraint → (corners : List ℕ) → List Words
-numbered_lines circuit cycle corners = count_line (codes "cycle") (length cycle)
-    ∷ lines_below (numbered_line_at circuit cycle corners) (length cycle)
+abbrev pub cornered_lines : Circuit → List Constraint → (corners : List ℕ) → List Words
+cornered_lines circuit cycle corners = count_line (codes "cycle") (length cycle)
+    ∷ lines_below (cornered_line_at circuit cycle corners) (length cycle)
 
 -- what shows that no period is less
 abbrev pub common_show_lines : Circuit → PeriodShow → (corners : List ℕ) → List Words
-common_show_lines circuit (shows.Cycle cycle) corners = numbered_lines circuit cycle corners
+common_show_lines circuit (shows.Cycle cycle) corners = cornered_lines circuit cycle corners
 common_show_lines circuit shows.Floor corners = floor_line ∷ []
 
 -- the lines for an outcome
@@ -37,7 +37,7 @@ abbrev pub corners_lines : Circuit → CornersOutcome → List Words
 corners_lines circuit (Found period shown corners schedule) = period_line period
     ∷ common_show_lines circuit shown corners ++ arrival_lines circuit schedule
 corners_lines circuit (Never cycle corners) =
-    (codes "never" ∷ []) ∷ numbered_lines circuit cycle corners
+    (codes "never" ∷ []) ∷ cornered_lines circuit cycle corners
 
 -- the exit status for an outcome
 abbrev pub corners_status : CornersOutcome → ℕ

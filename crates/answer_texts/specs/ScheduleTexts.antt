@@ -17,15 +17,15 @@ pub record IsSmallSchedule (schedule : Schedule) : Type 0 where
   pub arrivals : All (IsBelow (10 ^ 19)) schedule.at
 
 -- the register's line, by its number
-abbrev pub register_line_at : Circuit → Schedule → List Slack → ℕ → Words
-register_line_at circuit schedule slacks register = register_line circuit schedule.den register
+abbrev pub scheduled_line_at : Circuit → Schedule → List Slack → ℕ → Words
+scheduled_line_at circuit schedule slacks register = register_line circuit schedule.den register
     (arrival_of schedule.at register)
     (slice_index_or slacks register (record { setup = None; hold = None }))
 
 -- how many registers there are, and each of them in order
 abbrev pub register_lines : Circuit → Schedule → List Slack → List Words
 register_lines circuit schedule slacks = count_line (codes "registers") (length schedule.at)
-    ∷ lines_below (register_line_at circuit schedule slacks) (length schedule.at)
+    ∷ lines_below (scheduled_line_at circuit schedule slacks) (length schedule.at)
 
 -- the lines for an outcome
 abbrev pub schedule_lines : Circuit → ScheduleOutcome → List Words

@@ -9,12 +9,12 @@ pub use Rattle.outcomes.specs.PeriodOutcomes.{IsPeriodOutcome}
 pub use Rattle.outcomes.specs.ScheduleOutcomes.{period_outcome, HasSmallTimes, IsScheduleOutcome}
 pub use Rattle.outcomes.specs.SynthesisOutcomes.{IsOutcomeWith}
 pub use Rattle.answer_texts.specs.ArrivalTexts.{CanPrint, all_at_zero, arrival_line, arrival_lines}
-pub use Rattle.answer_texts.specs.CornerTexts.{numbered_line, numbered_line_at, numbered_lines, common_show_lines, corners_lines, corners_status}
+pub use Rattle.answer_texts.specs.CornerTexts.{cornered_line, cornered_line_at, cornered_lines, common_show_lines, corners_lines, corners_status}
 pub use Rattle.answer_texts.specs.DemoTexts.{summary_lines}
 pub use Rattle.answer_texts.specs.Endings.{ending_status}
 pub use Rattle.answer_texts.specs.MarginTexts.{margin_line, margin_lines, spared_lines}
 pub use Rattle.answer_texts.specs.PeriodTexts.{never_lines, zero_line, found_lines, period_lines, outcome_status}
-pub use Rattle.answer_texts.specs.ScheduleTexts.{IsSmallSchedule, register_line_at, register_lines, schedule_lines}
+pub use Rattle.answer_texts.specs.ScheduleTexts.{IsSmallSchedule, scheduled_line_at, register_lines, schedule_lines}
 pub use Rattle.answer_texts.specs.SynthTexts.{synthesis_lines, synthesis_status}
 pub use Rattle.answer_texts.specs.Types.{Tech, Topology}
 pub use Rattle.answer_texts.specs.ZeroTexts.{reason_line, zero_lines}

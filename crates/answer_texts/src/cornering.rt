@@ -1,7 +1,7 @@
 //! The text of the command `corners`: when the clock is to reach each register at several corners.
 
 ghost use Rattle.std.specs.Prelude.{◌≡◌, ◌<◌, ◌++◌, ◌∷◌, [], pos, All, List, length, OnOk, IfOk};
-ghost use Rattle.answer_texts.specs.Vocabulary.{signed_decimal, Fraction, Tech, constraint_line, line_of, text_of, IsBetweenRegisters, IsCommonShow, HasSmallCommonTimes, IsCornersOutcome, ending_status, numbered_line, numbered_line_at, numbered_lines, common_show_lines, corners_lines, corners_status};
+ghost use Rattle.answer_texts.specs.Vocabulary.{signed_decimal, Fraction, Tech, constraint_line, line_of, text_of, IsBetweenRegisters, IsCommonShow, HasSmallCommonTimes, IsCornersOutcome, ending_status, cornered_line, cornered_line_at, cornered_lines, common_show_lines, corners_lines, corners_status};
 
 use crate::answer::{Answer, Ending};
 use crate::arrivals::push_arrivals;
@@ -77,7 +77,7 @@ fn push_numbered(
     requires between { All (IsBetweenRegisters (length circuit.now.registers)) cycle.now }
     requires corners { length corners.now ≡ length cycle.now }
     ensures { OnOk result (out.new.items
-        ≡ out.old.items ++ text_of (numbered_lines circuit.now cycle.now corners.now)) }
+        ≡ out.old.items ++ text_of (cornered_lines circuit.now cycle.now corners.now)) }
 {
     push_count(out, b"cycle", cycle.len())?;
     for place in 0..cycle.len() {
@@ -98,7 +98,7 @@ fn push_numbered_at(
     requires corners { length corners.now ≡ length cycle.now }
     requires within { place < length cycle.now }
     ensures { OnOk result (out.new.items ≡ out.old.items
-        ++ line_of (numbered_line_at circuit.now cycle.now corners.now place)) }
+        ++ line_of (cornered_line_at circuit.now cycle.now corners.now place)) }
 {
     push_numbered_line(out, circuit, cycle[place], u64::from(corners[place]) + 1)
 }
@@ -113,7 +113,7 @@ fn push_numbered_line(
     requires tail { constraint.tail < length circuit.now.registers }
     requires head { constraint.head < length circuit.now.registers }
     ensures { OnOk result (out.new.items
-        ≡ out.old.items ++ line_of (numbered_line circuit.now constraint number)) }
+        ≡ out.old.items ++ line_of (cornered_line circuit.now constraint number)) }
 {
     let Constraint {
         setup,

@@ -1,5 +1,5 @@
 ghost use Rattle.std.specs.Prelude.{◌≡◌, ◌<◌, ◌++◌, length, OnOk};
-ghost use Rattle.answer_texts.specs.Vocabulary.{line_of, text_of, IsSmallSchedule, register_line_at, register_lines};
+ghost use Rattle.answer_texts.specs.Vocabulary.{line_of, text_of, IsSmallSchedule, scheduled_line_at, register_lines};
 
 use cts_base::NoMemory;
 use cts_model::{Circuit, Schedule, Slack};
@@ -39,7 +39,7 @@ fn push_register_at(
     requires registers { length schedule.now.at ≡ length circuit.now.registers }
     requires slacks { length slacks.now ≡ length circuit.now.registers }
     ensures { OnOk result (out.new.items ≡ out.old.items
-        ++ line_of (register_line_at circuit.now schedule.now slacks.now register)) }
+        ++ line_of (scheduled_line_at circuit.now schedule.now slacks.now register)) }
 {
     push_register(out, circuit, schedule, slacks[register], register)
 }

@@ -1,5 +1,5 @@
 -- What is wrong with one more line, and what it adds to the definitions so far.
-use Rattle.bench_reader.proofs.Vocabulary.{◌≡◌, ℕ, ◌+◌, cond, true, List, [], ◌∷◌, ◌++◌, length, Result, Ok, Err, Some, None, MatchResult, sym, ap, ◌∙◌, subst, arith, list_all, length-map, map_push, sum_by_push, IsFaultOf, is_register, is_short, Statement, Definition, statement_of, definition_of, names_of, definitions_in, defined_names, register_count, gate_inputs_of, gate_input_count, BenchFault, NoMemory, HasDefinitions, Adds, excess_after, fault_after, has_kind, has_valid_inputs, definition_excess, fault_of}
+use Rattle.bench_reader.proofs.Vocabulary.{◌≡◌, ℕ, ◌+◌, cond, true, List, [], ◌∷◌, ◌++◌, length, Result, Ok, Err, Some, None, MatchResult, sym, ap, ◌∙◌, subst, arith, list_all, length-map, map_push, sum_by_push, IsFaultOf, is_register, is_short, Statement, Definition, statement_of, definition_of, names_of, definitions_in, defined_names, register_count, gate_inputs_of, gate_input_count, BenchFault, NoMemory, HasDefinitions, Adds, excess_after, fault_after, has_kind, has_valid_inputs, definition_excess, bench_line_fault}
 use Rattle.bench_reader.specs.declared.definitions.Definitions.{Definitions}
 use Rattle.bench_reader.proofs.LineStatements.{definitions_push_some, definitions_push_none}
 
@@ -18,7 +18,7 @@ module _ (earlier : List (List ℕ)) (line : List ℕ) (statement : Statement)
   pub silent_adds : definition_of statement ≡ None → has_kind statement ≡ true
       → list_all is_short (names_of statement) ≡ true
       → (definitions : Definitions) → HasDefinitions definitions earlier
-      → (fault_of earlier line ≡ None) × HasDefinitions definitions (earlier ++ line ∷ [])
+      → (bench_line_fault earlier line ≡ None) × HasDefinitions definitions (earlier ++ line ∷ [])
   silent_adds none kind short definitions has =
       (rw (form, kind, none, short), silent_has none definitions has)
 
@@ -70,7 +70,7 @@ module _ (earlier : List (List ℕ)) (line : List ℕ) (statement : Statement)
       -- as does what is wrong with its line
       fault_is : {old : Definitions} (number : ℕ) → number ≡ length earlier + 1
           → HasDefinitions old earlier
-          → fault_of earlier line ≡ fault_after number old definition.name definition.kind
+          → bench_line_fault earlier line ≡ fault_after number old definition.name definition.kind
           (length definition.inputs) (list_all is_short (names_of statement))
       fault_is {old} number here has =
           rw (here, form, kind, some, valid_inputs, excess_is has, has.names)
@@ -84,8 +84,8 @@ module _ (earlier : List (List ℕ)) (line : List ℕ) (statement : Statement)
           (IsFaultOf NoMemory (fault_after number old definition.name definition.kind
           (length definition.inputs) (list_all is_short (names_of statement))))
           → HasDefinitions old earlier → number ≡ length earlier + 1 → MatchResult result
-          (λ _. (fault_of earlier line ≡ None) × HasDefinitions new (earlier ++ line ∷ []))
-          (IsFaultOf NoMemory (fault_of earlier line))
+          (λ _. (bench_line_fault earlier line ≡ None) × HasDefinitions new (earlier ++ line ∷ []))
+          (IsFaultOf NoMemory (bench_line_fault earlier line))
       defining_adds number new (Ok done) judged has here =
           (fault_is number here has ∙ judged.0, defining_has has judged.1)
       defining_adds number new (Err fault) judged has here =

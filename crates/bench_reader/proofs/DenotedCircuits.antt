@@ -1,5 +1,5 @@
 -- What the circuit is whose parts the lines tell.
-use Rattle.bench_reader.proofs.Vocabulary.{◌≡◌, ℕ, ◌<◌, ◌==◌, if◌then◌else◌, Option, Some, None, inl, inr, List, length, map, ap, ◌∙◌, subst, arith, filter_map, option_or, IsFaultOf, first_fault, lines_of, IsCircuit, registers_of, definition_of, mention_of, statements_in, definitions_in, register_count, names_in, signal_of, BenchFault, CircuitParts, fault_of, netlist_fault, use_fault, HasParts, DenotesCircuit, UsesDefined}
+use Rattle.bench_reader.proofs.Vocabulary.{◌≡◌, ℕ, ◌<◌, ◌==◌, if◌then◌else◌, Option, Some, None, inl, inr, List, length, map, ap, ◌∙◌, subst, arith, filter_map, option_or, IsFaultOf, first_fault, lines_of, IsCircuit, registers_of, definition_of, mention_of, statements_in, definitions_in, register_count, names_in, signal_of, BenchFault, CircuitParts, bench_line_fault, netlist_fault, use_fault, HasParts, DenotesCircuit, UsesDefined}
 use Rattle.std.proofs.lemmas.Bool.{eq-eqb, ne_eqb}
 use Rattle.cts_model.specs.declared.circuit.Circuit.{Circuit}
 use Rattle.cts_model.specs.Vocabulary.{HasNoHost}
@@ -11,7 +11,7 @@ use Rattle.bench_reader.proofs.Hostless.{hostless_lines, has_host-lines}
 use Rattle.bench_reader.proofs.NetlistCircuits.{HasDefinedInputs, inputs_defined, length-registers_of, circuit_from}
 
 module _ (text : List ℕ) (names : List (List ℕ)) (parts : CircuitParts)
-    (flawless : first_fault fault_of text ≡ None) (known : names ≡ names_in text)
+    (flawless : first_fault bench_line_fault text ≡ None) (known : names ≡ names_in text)
     (has : HasParts names parts (lines_of text)) where
   -- the parts, by the names that the text defines
   has_here : HasParts (names_in text) parts (lines_of text)
@@ -82,14 +82,14 @@ module _ (text : List ℕ) (fault : BenchFault) where
       else None))
 
   -- what the walk over the lines refuses is the fault of the text
-  pub line_refused : IsFaultOf faults.NoMemory (first_fault fault_of text) fault
+  pub line_refused : IsFaultOf faults.NoMemory (first_fault bench_line_fault text) fault
       → IsFaultOf faults.NoMemory (netlist_fault text) fault
   line_refused (inl found) =
       inl (ap (λ it. by_faults it (first_fault (use_fault (names_in text)) text)) found)
   line_refused (inr memory) = inr memory
 
   -- and so is what the walk over uses refuses
-  pub use_refused : first_fault fault_of text ≡ None
+  pub use_refused : first_fault bench_line_fault text ≡ None
       → IsFaultOf faults.NoMemory (first_fault (use_fault (names_in text)) text) fault
       → IsFaultOf faults.NoMemory (netlist_fault text) fault
   use_refused flawless (inl found) = inl (λ i. by_faults (flawless i) (found i))

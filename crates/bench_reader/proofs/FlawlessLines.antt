@@ -1,5 +1,5 @@
 -- What a line without a fault says.
-use Rattle.bench_reader.proofs.Vocabulary.{◌≡◌, ◌+◌, ℕ, length, Bool, true, false, not, if◌then◌else◌, List, Option, Some, None, refl, option_map, option_and_then, option_map_or, list_all, is_short, Statement, Definition, statement_of, definition_of, names_of, definitions_in, has_kind, has_valid_inputs, is_defined_before, definition_excess, fault_of, statement_fault, Name, BadLine, UnknownKind, WrongInputs, SignalTwice, TooLarge}
+use Rattle.bench_reader.proofs.Vocabulary.{◌≡◌, ◌+◌, ℕ, length, Bool, true, false, not, if◌then◌else◌, List, Option, Some, None, refl, option_map, option_and_then, option_map_or, list_all, is_short, Statement, Definition, statement_of, definition_of, names_of, definitions_in, has_kind, has_valid_inputs, is_defined_before, definition_excess, bench_line_fault, statement_fault, Name, BadLine, UnknownKind, WrongInputs, SignalTwice, TooLarge}
 use Rattle.bench_reader.specs.declared.fault.Which.{Which}
 
 -- nothing is wrong with a statement after these definitions
@@ -43,7 +43,7 @@ sound_statement number earlier statement =
         record { kind = k; inputs = i; once = t; short = s; within = e }
 
 -- a line without a fault
-pub sound_line : (earlier : List (List ℕ)) (line : List ℕ) → fault_of earlier line ≡ None
+pub sound_line : (earlier : List (List ℕ)) (line : List ℕ) → bench_line_fault earlier line ≡ None
     → IsSoundLine earlier line
 sound_line earlier line = at (statement_of line) refl
   where

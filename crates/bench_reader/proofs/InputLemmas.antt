@@ -1,5 +1,5 @@
 -- The names of a list of inputs, and how they stand among its tokens.
-use Rattle.bench_reader.proofs.Vocabulary.{ℕ, suc, if◌then◌else◌, ◌≡◌, ◌≤◌, Bool, true, false, List, [], ◌∷◌, length, Option, Some, None, IfSome, refl, ap, arith, option_map, is_blank, is_name_byte, Token, Word, Close, Comma, begins_with_name_byte, mark_of, onto_word, tokens_of, inputs_of, more_inputs_of, words_in}
+use Rattle.bench_reader.proofs.Vocabulary.{ℕ, suc, if◌then◌else◌, ◌≡◌, ◌≤◌, Bool, true, false, List, [], ◌∷◌, length, Option, Some, None, IfSome, refl, ap, arith, option_map, is_blank, is_name_byte, Token, Word, Close, Comma, begins_with_name_byte, mark_of, onto_word, tokens_of, inputs_of, more_inputs_of, token_words}
 
 -- a name before the words
 onto_words : (name : List ℕ) (words : List (List ℕ)) (more : Option (List (List ℕ)))
@@ -10,18 +10,18 @@ onto_words name words (Some names) are = ap (λ l. name ∷ l) are
 
 -- the names after a name are the words there
 more_inputs_are_words : (tokens : List Token)
-    → IfSome (more_inputs_of tokens) (λ names. names ≡ words_in tokens)
+    → IfSome (more_inputs_of tokens) (λ names. names ≡ token_words tokens)
 more_inputs_are_words (Close ∷ []) = refl
 more_inputs_are_words (Comma ∷ Word name ∷ rest) =
-    onto_words name (words_in rest) (more_inputs_of rest) (more_inputs_are_words rest)
+    onto_words name (token_words rest) (more_inputs_of rest) (more_inputs_are_words rest)
 more_inputs_are_words _ = tt
 
 -- the names of a list are its words
 pub inputs_are_words : (tokens : List Token)
-    → IfSome (inputs_of tokens) (λ names. names ≡ words_in tokens)
+    → IfSome (inputs_of tokens) (λ names. names ≡ token_words tokens)
 inputs_are_words (Close ∷ []) = refl
 inputs_are_words (Word name ∷ rest) =
-    onto_words name (words_in rest) (more_inputs_of rest) (more_inputs_are_words rest)
+    onto_words name (token_words rest) (more_inputs_of rest) (more_inputs_are_words rest)
 inputs_are_words _ = tt
 
 -- a byte put onto a word makes at most one more token

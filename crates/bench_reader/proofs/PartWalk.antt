@@ -1,5 +1,5 @@
 -- The walk that takes in what each line says, where the names of all lines are known.
-use Rattle.bench_reader.proofs.Vocabulary.{◌≡◌, ℕ, suc, ◌+◌, ◌<◌, ◌≤◌, true, drop, get_or, List, [], ◌∷◌, ◌++◌, length, Some, None, ap, refl, sym, ◌∙◌, subst, arith, length-append, append_assoc, filter_map, get_or-map, length-map, length_push, filter_map-append, first_fault, first_fault_after, lines_of, flawless_at, Statement, statement_of, definition_of, statements_in, definitions_in, signal_of, CircuitParts, Undefined, IsReading, kept_of, said_in, HasParts, said_by, fault_of, has_kind, use_fault, UsesDefined}
+use Rattle.bench_reader.proofs.Vocabulary.{◌≡◌, ℕ, suc, ◌+◌, ◌<◌, ◌≤◌, true, drop, get_or, List, [], ◌∷◌, ◌++◌, length, Some, None, ap, refl, sym, ◌∙◌, subst, arith, length-append, append_assoc, filter_map, get_or-map, length-map, length_push, filter_map-append, first_fault, first_fault_after, lines_of, flawless_at, Statement, statement_of, definition_of, statements_in, definitions_in, signal_of, CircuitParts, Undefined, IsReading, kept_of, said_in, HasParts, said_by, bench_line_fault, has_kind, use_fault, UsesDefined}
 use Rattle.std.proofs.Math.Seq.{drop-cons}
 use Rattle.bench_reader.specs.declared.said.Said.{Said}
 use Rattle.bench_reader.proofs.AddedParts.{silents_denoted}
@@ -104,8 +104,9 @@ module _ {text : List ℕ} {names : List (List ℕ)} {said : List Said}
       pub has_kind_next : has_kind statement ≡ true
       has_kind_next =
           let sound = sound_line earlier next.line
-          (flawless_at fault_of [] earlier next.line next.later
-          (subst (λ lines. first_fault_after fault_of [] lines ≡ None) parted reading.flawless)) in
+          (flawless_at bench_line_fault [] earlier next.line next.later
+          (subst (λ lines. first_fault_after bench_line_fault [] lines
+          ≡ None) parted reading.flawless)) in
           let same : sound.statement ≡ statement = cc (sound.form, next.says) in
           subst (λ s. has_kind s ≡ true) same sound.sound.kind
 

@@ -1,5 +1,5 @@
 -- What the definitions of lines without a fault keep.
-use Rattle.bench_reader.proofs.Vocabulary.{◌≡◌, ◌≢◌, ℕ, ◌≤◌, ◌<◌, Bool, true, false, nat_le, nat_lt, if◌then◌else◌, ◌&&◌, List, [], ◌∷◌, ◌++◌, length, Option, Some, None, All, AllPairs, Contains, IsTrue, refl, ◌∙◌, subst, arith, append_assoc, append-nil, option_map_or, option_and_then, nat_tests, length_push, length-map, get_or-map, All-nil, All-push, Contains-get_or, all_pairs_push, first_fault_after, neither, is_name, is_short, is_valid, Definition, definition_of, definitions_in, defined_names, register_count, gate_input_count, has_valid_inputs, is_defined_before, definition_excess, fault_of, Signals, Registers, Inputs}
+use Rattle.bench_reader.proofs.Vocabulary.{◌≡◌, ◌≢◌, ℕ, ◌≤◌, ◌<◌, Bool, true, false, nat_le, nat_lt, if◌then◌else◌, ◌&&◌, List, [], ◌∷◌, ◌++◌, length, Option, Some, None, All, AllPairs, Contains, IsTrue, refl, ◌∙◌, subst, arith, append_assoc, append-nil, option_map_or, option_and_then, nat_tests, length_push, length-map, get_or-map, All-nil, All-push, Contains-get_or, all_pairs_push, first_fault_after, neither, is_name, is_short, is_valid, Definition, definition_of, definitions_in, defined_names, register_count, gate_input_count, has_valid_inputs, is_defined_before, definition_excess, bench_line_fault, Signals, Registers, Inputs}
 use Rattle.bench_reader.proofs.LineStatements.{definitions_push_some, definitions_push_none}
 use Rattle.bench_reader.proofs.FlawlessLines.{IsSoundLine, sound_line}
 use Rattle.bench_reader.proofs.StatementNames.{defined_name}
@@ -103,18 +103,18 @@ valid_line earlier line before here =
         }))
 
 -- and more lines
-valid_after : (prefix rest : List (List ℕ)) → first_fault_after fault_of prefix rest ≡ None
+valid_after : (prefix rest : List (List ℕ)) → first_fault_after bench_line_fault prefix rest ≡ None
     → AreValid (definitions_in prefix) → AreValid (definitions_in (prefix ++ rest))
 valid_after prefix [] none before = rw append-nil before
 valid_after prefix (line ∷ rest) none before =
     let parts : (prefix ++ line ∷ []) ++ rest ≡ prefix ++ line ∷ rest =
     append_assoc prefix (line ∷ []) rest in
-    let (here, later) = neither (fault_of prefix line) _ none in
+    let (here, later) = neither (bench_line_fault prefix line) _ none in
     rw (← parts)
     (valid_after (prefix ++ line ∷ []) rest later
     (valid_line prefix line before (sound_line prefix line here)))
 
 -- lines without a fault define what a netlist may have
-pub valid_lines : (lines : List (List ℕ)) → first_fault_after fault_of [] lines ≡ None
+pub valid_lines : (lines : List (List ℕ)) → first_fault_after bench_line_fault [] lines ≡ None
     → AreValid (definitions_in lines)
 valid_lines lines flawless = valid_after [] lines flawless none_valid

@@ -21,8 +21,8 @@ pub use Rattle.cts_model.specs.declared.signal.Signal.{Signal}
 pub use Rattle.cts_model.specs.Vocabulary.{registers_of, IsCircuit, has_host, is_named, register_number, gate_inputs, statements_in, definitions_in, defined_names, register_count, gate_inputs_of, gate_input_count, is_register, is_host, kind_of, is_gate, is_valid, signal_of, number_of, first_mentions, names_in, Statement, Output, Assign, Definition, statement_of, definition_of, mention_of, names_of, uses_of, inputs_of, more_inputs_of, form_of, declaration_of, is_short, is_name_byte, is_name, Token, Word, Close, Comma, begins_with_name_byte, mark_of, onto_word, tokens_of, Open, Equals, Stray}
 pub use Rattle.cts_model.specs.netlist.Statements.{Blank, Input}
 pub use Rattle.indexmap.specs.IndexSet.{insert_key}
-pub use Rattle.bench_reader.specs.Faults.{has_kind, has_valid_inputs, definition_excess, fault_of, netlist_fault, use_fault, is_defined_before, statement_fault, uses_defined}
-pub use Rattle.bench_reader.specs.Inputs.{words_in}
+pub use Rattle.bench_reader.specs.Faults.{has_kind, has_valid_inputs, definition_excess, bench_line_fault, netlist_fault, use_fault, is_defined_before, statement_fault, uses_defined}
+pub use Rattle.bench_reader.specs.Inputs.{token_words}
 pub use Rattle.bench_reader.specs.Netlists.{IsNetlist, RefusesNetlist, names_of_signals}
 pub use Rattle.bench_reader.specs.Said.{unless_blank, IsReading, kept_of, said_in, numbered_statement}
 pub use Rattle.bench_reader.specs.Taken.{HasParts, HasDefinitions, Adds, excess_after, fault_after, DenotesCircuit}

@@ -51,8 +51,8 @@ statement_fault number earlier statement =
     else option_map (TooLarge number) (excess_of earlier statement)
 
 -- what is wrong with a line after the lines before it, if anything is
-abbrev pub fault_of : (earlier : List (List ℕ)) → (line : List ℕ) → Option BenchFault
-fault_of earlier line =
+abbrev pub bench_line_fault : (earlier : List (List ℕ)) → (line : List ℕ) → Option BenchFault
+bench_line_fault earlier line =
     option_map_or (statement_fault (length earlier + 1) (definitions_in earlier))
     (statement_of line) (Some (BadLine (length earlier + 1)))
 
@@ -70,6 +70,6 @@ use_fault names earlier line =
 -- the first fault of a text, but for gates that read one another in a ring: that of a line, else
 -- that a line uses a name which no line defines, else that no line defines a register
 abbrev pub netlist_fault : (text : List ℕ) → Option BenchFault
-netlist_fault text = option_or (first_fault fault_of text)
+netlist_fault text = option_or (first_fault bench_line_fault text)
     (option_or (first_fault (use_fault (names_in text)) text)
     (if register_count (definitions_in (lines_of text)) == 0 then Some NoRegisters else None))

@@ -9,5 +9,5 @@ word_in (Word bytes) = Some bytes
 word_in _ = None
 
 -- the words among tokens
-abbrev pub words_in : List Token → List (List ℕ)
-words_in tokens = filter_map word_in tokens
+abbrev pub token_words : List Token → List (List ℕ)
+token_words tokens = filter_map word_in tokens

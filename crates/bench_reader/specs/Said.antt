@@ -10,7 +10,7 @@ use Rattle.cts_model.specs.netlist.Statements.{Blank}
 use Rattle.cts_model.specs.netlist.Statements as formats
 use Rattle.bench_reader.specs.declared.definitions.Definitions.{Definitions}
 use Rattle.bench_reader.specs.declared.said.Said.{Said}
-use Rattle.bench_reader.specs.Faults.{fault_of}
+use Rattle.bench_reader.specs.Faults.{bench_line_fault}
 use Rattle.bench_reader.specs.Taken.{HasDefinitions}
 use Rattle.bench_reader.specs.View.{said_by}
 
@@ -37,7 +37,7 @@ kept_of said = map (λ one. (one.number, said_by one.statement)) said
 
 -- no line of the text has a fault, these are the names that it defines, and this is what it says
 pub record IsReading (text : List ℕ) (names : List (List ℕ)) (said : List Said) : Type 0 where
-  pub flawless : first_fault fault_of text ≡ None
+  pub flawless : first_fault bench_line_fault text ≡ None
   pub names_are : names ≡ names_in text
   pub said_are : kept_of said ≡ said_in 1 (lines_of text)
 

@@ -9,8 +9,8 @@ pub use Rattle.cts_base.specs.Words.{is_blank}
 pub use Rattle.cts_model.specs.Vocabulary.{registers_of, number_of, statement_of, uses_of, is_register, is_gate, is_short, tokens_of, inputs_of, more_inputs_of, HasNoHost, form_of, declaration_of, names_of, Word, Close, Equals, is_name_byte, mark_of}
 pub use Rattle.cts_model.specs.netlist.Statements.{Blank}
 pub use Rattle.indexmap.specs.IndexSet.{insert_key}
-pub use Rattle.bench_reader.specs.Faults.{has_kind, use_fault, fault_of, netlist_fault}
-pub use Rattle.bench_reader.specs.Inputs.{words_in}
+pub use Rattle.bench_reader.specs.Faults.{has_kind, use_fault, bench_line_fault, netlist_fault}
+pub use Rattle.bench_reader.specs.Inputs.{token_words}
 pub use Rattle.bench_reader.specs.Netlists.{AcceptsNetlist, RefusesNetlist, names_of_signals}
 pub use Rattle.bench_reader.specs.Said.{kept_of, unless_blank}
 pub use Rattle.bench_reader.specs.Taken.{HasParts, DenotesCircuit}

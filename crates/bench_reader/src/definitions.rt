@@ -1,5 +1,5 @@
 ghost use Rattle.std.specs.Prelude.{◌≡◌, ◌≤◌, ◌+◌, List, ℕ, [], ◌∷◌, ◌++◌, None, Some, length, MatchResult, if◌then◌else◌};
-ghost use Rattle.bench_reader.specs.Vocabulary.{IsFaultOf, is_register, is_gate, statement_of, fault_of, BenchFault, Which, said_by};
+ghost use Rattle.bench_reader.specs.Vocabulary.{IsFaultOf, is_register, is_gate, statement_of, bench_line_fault, BenchFault, Which, said_by};
 
 use crate::kinds::{kind_of, may_have};
 use crate::names::Names;
@@ -44,9 +44,9 @@ impl<'a> Definitions<'a> {
             → statement_of line ≡ Some (said_by statement.now) → HasDefinitions self.old earlier
             → number ≡ length earlier + 1
             → MatchResult result
-            (λ _. (fault_of earlier line ≡ None)
+            (λ _. (bench_line_fault earlier line ≡ None)
             × HasDefinitions self.new (earlier ++ line ∷ []))
-            (IsFaultOf BenchFault.NoMemory (fault_of earlier line)) }
+            (IsFaultOf BenchFault.NoMemory (bench_line_fault earlier line)) }
     {
         let short = statement.has_short_names();
         match statement {

@@ -1,5 +1,5 @@
 ghost use Rattle.std.specs.Prelude.{◌≡◌, ◌<◌, ◌+◌, ◌^◌, ℕ, List, length};
-ghost use Rattle.bench_reader.specs.Vocabulary.{YieldsFirstRef, item_count, list_all, option_map, is_short, tokens_of, inputs_of, more_inputs_of, words_in, tally_of, with_names};
+ghost use Rattle.bench_reader.specs.Vocabulary.{YieldsFirstRef, item_count, list_all, option_map, is_short, tokens_of, inputs_of, more_inputs_of, token_words, tally_of, with_names};
 
 use crate::tally::Tally;
 use crate::token::{Token, Tokens};
@@ -17,9 +17,10 @@ pub(crate) struct InputList<'a> {
 impl<'a> Model for InputList<'a> {
     ghost Value = { List (List ℕ) };
 
-    ghost view = { λ inputs. words_in (tokens_of inputs.text.now) };
+    ghost view = { λ inputs. token_words (tokens_of inputs.text.now) };
 
-    ghost invariant = { λ inputs. inputs.tally ≡ tally_of (words_in (tokens_of inputs.text.now)) };
+    ghost invariant = { λ inputs. inputs.tally ≡ tally_of (token_words (tokens_of
+        inputs.text.now)) };
 }
 
 impl<'a> InputList<'a> {
@@ -64,13 +65,13 @@ pub(crate) struct Inputs<'a> {
 impl<'a> Model for Inputs<'a> {
     ghost Value = { List (List ℕ) };
 
-    ghost view = { λ inputs. words_in inputs.tokens };
+    ghost view = { λ inputs. token_words inputs.tokens };
 }
 
 impl<'a> Inputs<'a> {
     // All words of a text, whatever stands between them.
     fn of(text: &'a [u8]) -> Inputs<'a>
-        ensures { result ≡ words_in (tokens_of text.now) }
+        ensures { result ≡ token_words (tokens_of text.now) }
     {
         Inputs {
             tokens: Tokens::of(text),

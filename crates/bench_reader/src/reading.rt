@@ -1,5 +1,5 @@
 ghost use Rattle.std.specs.Prelude.{◌≡◌, ◌≤◌, ◌++◌, IfErr, IfOk, OnOk, Some, length};
-ghost use Rattle.bench_reader.specs.Vocabulary.{option_map, option_to_list, IsFaultOf, first_fault, BenchFault, fault_of, kept_of, unless_blank, said_by};
+ghost use Rattle.bench_reader.specs.Vocabulary.{option_map, option_to_list, IsFaultOf, first_fault, BenchFault, bench_line_fault, kept_of, unless_blank, said_by};
 
 use crate::BenchFault;
 use crate::definitions::Definitions;
@@ -16,7 +16,7 @@ struct Statements<'a> {
 }
 
 impl<'a> LineFormat<'a> for Statements<'a> {
-    ghost use Rattle.bench_reader.specs.Faults.{fault_of};
+    ghost use Rattle.bench_reader.specs.Faults.{bench_line_fault};
     ghost use Rattle.bench_reader.specs.Said.{HasRead};
     ghost use Rattle.bench_reader.specs.declared.fault.BenchFault.TheVariants.{NoMemory};
 
@@ -24,7 +24,7 @@ impl<'a> LineFormat<'a> for Statements<'a> {
 
     ghost no_memory = { NoMemory };
 
-    ghost fault_of = { λ _. fault_of };
+    ghost fault_of = { λ _. bench_line_fault };
 
     ghost has_read = { λ _ statements. HasRead statements.definitions statements.said.items };
 
@@ -59,7 +59,7 @@ pub(crate) fn read_statements(alloc: Global, bytes: &[u8]) -> Result<Reading<'_>
     requires { length bytes.now ≤ 16777216 }
     ensures text { IfOk result (λ reading. reading.text.now ≡ bytes.now) }
     ensures refused { IfErr result
-        (IsFaultOf BenchFault.NoMemory (first_fault fault_of bytes.now)) }
+        (IsFaultOf BenchFault.NoMemory (first_fault bench_line_fault bytes.now)) }
 {
     let mut statements = Statements {
         definitions: Definitions::new(alloc),

@@ -1,5 +1,5 @@
 ghost use Rattle.std.specs.Prelude.{◌≡◌, ◌≤◌, ◌<◌, List, ◌∷◌, length};
-ghost use Rattle.bench_reader.specs.Vocabulary.{prefix_len, YieldsFirstBy, YieldsFirstRef, item_count, is_blank, is_name_byte, tokens_of, mark_of, words_in, token_of};
+ghost use Rattle.bench_reader.specs.Vocabulary.{prefix_len, YieldsFirstBy, YieldsFirstRef, item_count, is_blank, is_name_byte, tokens_of, mark_of, token_words, token_of};
 ghost use Rattle.cts_model.specs.text.Tokens as format;
 
 use std::marker::Model;
@@ -72,7 +72,7 @@ impl<'a> Tokens<'a> {
 
     /// The next word that is left, whatever stands before it.
     pub(crate) fn next_word(&mut self) -> Option<&'a [u8]>
-        ensures { YieldsFirstRef words_in self.old result self.new }
+        ensures { YieldsFirstRef token_words self.old result self.new }
     {
         while let Some(token) = self.next() {
             if let Token::Word(word) = token {

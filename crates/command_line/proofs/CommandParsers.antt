@@ -1,5 +1,5 @@
 -- The parsers of the commands take plain words.
-use Rattle.command_line.proofs.Vocabulary.{◌≡◌, not, ◌||◌, ◌&&◌, Bool, true, false, List, [], ◌∷◌, map, cond, Option, Some, None, is_some, refl, sym, ap, ◌∙◌, subst, true≢false, codes, bytes_eq, All, AllByRecursion, list_all, nat_list_eq_equiv, All-head, All-tail, long_of, Row, Rule, arg_by_id, arg_by_long, rows_of, first_of, nothing_held, rows_after, App, Shape, argument_words, built, is_simple, label_of, matches_of, is_given, is_valid, takes, leaf_takes, Form, Zero, Choice, Word, word_of, kind_of, is_required, form_name, choices_of, Given, IsTaken, is_value, is_taken, is_file_name, option_words, has_option, are_options, has_required, row_values, IsPlainHead, long_name, parser_for}
+use Rattle.command_line.proofs.Vocabulary.{◌≡◌, not, ◌||◌, ◌&&◌, Bool, true, false, List, [], ◌∷◌, map, cond, Option, Some, None, is_some, refl, sym, ap, ◌∙◌, subst, true≢false, codes, bytes_eq, All, AllByRecursion, list_all, nat_list_eq_equiv, All-head, All-tail, long_of, Row, Rule, arg_by_id, arg_by_long, rows_of, first_of, nothing_held, rows_after, App, Shape, argument_words, built, is_simple, label_of, matches_of, is_given, is_valid, takes, leaf_takes, Form, Zero, Choice, Word, option_word, value_kind, is_required, form_name, choices_of, Given, IsTaken, is_value, is_taken, is_file_name, option_words, has_option, are_options, has_required, row_values, IsPlainHead, long_name, parser_for}
 use Rattle.std.specs.Prelude.{find, option_and_then, slice_get}
 use Rattle.std.specs.Option.{option_map_or}
 use Rattle.clap.specs.Facts.{explicit_source}
@@ -65,16 +65,16 @@ reading rules word = (
 -- that is due for an option
 abbrev due : Choice → Reading
 due choice =
-    let word = word_of choice in
+    let word = option_word choice in
     let rule = Some (rule_with word (is_required choice)) in
     (rule, rule, Some (long_name word, None), false)
 
 -- a parser without subcommands reads these options, and requires what their row requires
 record Reads (top : Shape) (choices : List Choice) : Type 0 where
-  each : map (λ choice. reading top.rules (word_of choice)) choices ≡ map due choices
+  each : map (λ choice. reading top.rules (option_word choice)) choices ≡ map due choices
   no_defaults : HaveNoDefaults top.rules
   valid : (rows : List Row) → is_valid top rows false
-      ≡ list_all (λ choice. not (is_required choice) || is_given (word_of choice) rows) choices
+      ≡ list_all (λ choice. not (is_required choice) || is_given (option_word choice) rows) choices
 
 -- the parser of each command does
 reads : (form : Form) → Reads (built (parser_for form)).top (choices_of form)
@@ -98,16 +98,16 @@ is_simple_parser form = refl
 
 -- an option that a row takes is read where each of the row is
 read_taken : (rules : List Rule) (choices : List Choice)
-    → map (λ choice. reading rules (word_of choice)) choices ≡ map due choices
+    → map (λ choice. reading rules (option_word choice)) choices ≡ map due choices
     → (one : Given) → IsTaken choices one → IsReadBy rules one.0 × (is_file_name one.1 ≡ true)
 read_taken rules [] each one taken = absurd (true≢false (sym taken))
 read_taken rules (choice ∷ more) each one taken =
-    at (bytes_eq (word_of choice) one.0) refl (is_value (kind_of choice) one.1) refl taken
+    at (bytes_eq (option_word choice) one.0) refl (is_value (value_kind choice) one.1) refl taken
     (read_taken rules more (cc) one)
   where
-    read : IsReadBy rules (word_of choice)
+    read : IsReadBy rules (option_word choice)
     read =
-        let is : reading rules (word_of choice) ≡ due choice = cc in
+        let is : reading rules (option_word choice) ≡ due choice = cc in
         record {
           required = is_required choice;
           by_id = ap (λ (r : Reading). r.0) is;
@@ -116,22 +116,22 @@ read_taken rules (choice ∷ more) each one taken =
           option = ap (λ (r : Reading). r.3) is;
         }
 
-    at : (same : Bool) → bytes_eq (word_of choice) one.0 ≡ same
-        → (valid : Bool) → is_value (kind_of choice) one.1 ≡ valid
+    at : (same : Bool) → bytes_eq (option_word choice) one.0 ≡ same
+        → (valid : Bool) → is_value (value_kind choice) one.1 ≡ valid
         → (same && valid || is_taken more one.0 one.1) ≡ true
         → (IsTaken more one → IsReadBy rules one.0 × (is_file_name one.1 ≡ true))
         → IsReadBy rules one.0 × (is_file_name one.1 ≡ true)
     at true same true valid taken rest = (
-      subst (IsReadBy rules) (is_word (word_of choice) one.0 same) read,
+      subst (IsReadBy rules) (is_word (option_word choice) one.0 same) read,
       value_first
-          (kind_of choice) one.1 valid,
+          (value_kind choice) one.1 valid,
     )
     at true same false valid taken rest = rest taken
     at false same valid is taken rest = rest taken
 
 -- so are all options that it takes
 read_all : (rules : List Rule) (choices : List Choice)
-    → map (λ choice. reading rules (word_of choice)) choices ≡ map due choices
+    → map (λ choice. reading rules (option_word choice)) choices ≡ map due choices
     → (given : List Given) → All (IsTaken choices) given
     → AllByRecursion (λ one. IsReadBy rules one.0 × (is_file_name one.1 ≡ true)) given
 read_all rules choices each [] taken = tt
@@ -162,7 +162,7 @@ module _ (words : List Word) (form : Form) (plain : IsPlainHead words form) wher
   -- it has what it requires
   valid_plain : is_valid top (map row_for options.given) false ≡ true
   valid_plain = (reads form).valid (map row_for options.given)
-      ∙ (λ i. list_all (λ choice. not (is_required choice) || stands (word_of choice) i)
+      ∙ (λ i. list_all (λ choice. not (is_required choice) || stands (option_word choice) i)
       (choices_of form))
       ∙ (both (are_options (choices_of form) plain.others)
       (has_required (choices_of form) plain.others) plain.options).1
@@ -191,7 +191,7 @@ module _ (words : List Word) (form : Form) (plain : IsPlainHead words form) wher
         → (is_simple app ≡ true → (rows_of found ≡ matches_of app words) × Z)
         → row_values (first_value found) (choices_of form)
         ≡ values_in (choices_of form) options.given
-    finds_values found finds = λ i. map (λ choice. value (word_of choice) i) (choices_of form)
+    finds_values found finds = λ i. map (λ choice. value (option_word choice) i) (choices_of form)
       where
         rows : rows_of found ≡ map row_for options.given
         rows =

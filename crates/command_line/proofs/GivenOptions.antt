@@ -1,5 +1,5 @@
 -- Options with their values, and the words that spell them.
-use Rattle.command_line.proofs.Vocabulary.{◌≡◌, ◌&&◌, ◌||◌, ◌++◌, Bool, true, false, not, cond, List, [], ◌∷◌, map, Option, Some, None, is_some, option_map, option_to_list, refl, sym, ap, ◌∙◌, subst, true≢false, bytes_eq, All, AllByRecursion, IsDistinct, list_any, IsPermutation, lookup, keys_of, nat_list_eq_equiv, bytes_eq-Decides, All-cons, All-nil, All-head, All-tail, IsPermutation-refl, IsPermutation-sym, IsPermutation-cons, IsPermutation-trans, IsPermutation-append_right, IsPermutation-middle, IsPermutation-map, Contains-permutation, list_any-IsPermutation, IsDistinct-IsPermutation, IsDistinct-cons, IsDistinct-head, IsDistinct-tail, Choice, Word, word_of, kind_of, Given, is_value, is_taken, IsTaken, option_words, listed_one, listed, has_option, are_options, row_values}
+use Rattle.command_line.proofs.Vocabulary.{◌≡◌, ◌&&◌, ◌||◌, ◌++◌, Bool, true, false, not, cond, List, [], ◌∷◌, map, Option, Some, None, is_some, option_map, option_to_list, refl, sym, ap, ◌∙◌, subst, true≢false, bytes_eq, All, AllByRecursion, IsDistinct, list_any, IsPermutation, lookup, keys_of, nat_list_eq_equiv, bytes_eq-Decides, All-cons, All-nil, All-head, All-tail, IsPermutation-refl, IsPermutation-sym, IsPermutation-cons, IsPermutation-trans, IsPermutation-append_right, IsPermutation-middle, IsPermutation-map, Contains-permutation, list_any-IsPermutation, IsDistinct-IsPermutation, IsDistinct-cons, IsDistinct-head, IsDistinct-tail, Choice, Word, option_word, value_kind, Given, is_value, is_taken, IsTaken, option_words, listed_one, listed, has_option, are_options, row_values}
 use Rattle.std.proofs.lemmas.Map.Made.{is_some-lookup}
 use Rattle.std.proofs.lemmas.Map.Views.{Contains-from_lookup, lookup-from_Contains}
 
@@ -143,52 +143,53 @@ value_of-permutes option given other once moved = at (value_of option given) ref
 
 -- an option that isn't of a row changes nothing in its order
 in_order-other : (choices : List Choice) (one : Given) (more : List Given)
-    → AllByRecursion (λ word. bytes_eq one.0 word ≡ false) (map word_of choices)
+    → AllByRecursion (λ word. bytes_eq one.0 word ≡ false) (map option_word choices)
     → in_order choices (one ∷ more) ≡ in_order choices more
 in_order-other [] one more other = refl
 in_order-other (choice ∷ others) one more other =
-    let apart = nat_list_eq_equiv.symm (word_of choice) one.0 ∙ other.0 in
-    λ i. listed_one choice (cond (apart i) (Some one.1) (value_of (word_of choice) more))
+    let apart = nat_list_eq_equiv.symm (option_word choice) one.0 ∙ other.0 in
+    λ i. listed_one choice (cond (apart i) (Some one.1) (value_of (option_word choice) more))
     ++ in_order-other others one more other.1 i
 
 -- one that a row takes, and that hasn't stood yet, comes in at its place
 in_order-more : (choices : List Choice) (one : Given) (more : List Given)
-    → IsDistinct bytes_eq (map word_of choices) → is_taken choices one.0 one.1 ≡ true
+    → IsDistinct bytes_eq (map option_word choices) → is_taken choices one.0 one.1 ≡ true
     → value_of one.0 more ≡ None
     → IsPermutation (one ∷ in_order choices more) (in_order choices (one ∷ more))
 in_order-more [] one more row taken absent = absurd (true≢false (sym taken))
 in_order-more (choice ∷ others) one more row taken absent =
-    at (bytes_eq (word_of choice) one.0) refl
-    (λ taken. in_order-more others one more (IsDistinct-tail bytes_eq (word_of choice)
-    (map word_of others) row) taken absent)
+    at (bytes_eq (option_word choice) one.0) refl
+    (λ taken. in_order-more others one more (IsDistinct-tail bytes_eq (option_word choice)
+    (map option_word others) row) taken absent)
   where
-    at : (same : Bool) → bytes_eq (word_of choice) one.0 ≡ same
+    at : (same : Bool) → bytes_eq (option_word choice) one.0 ≡ same
         → (is_taken others one.0 one.1 ≡ true
         → IsPermutation (one ∷ in_order others more) (in_order others (one ∷ more)))
         → IsPermutation (one ∷ in_order (choice ∷ others) more)
         (in_order (choice ∷ others) (one ∷ more))
     at true same rest =
-        let is : word_of choice ≡ one.0 = is_word (word_of choice) one.0 same in
-        let apart : AllByRecursion (λ word. bytes_eq one.0 word ≡ false) (map word_of others) =
-        subst (λ word. AllByRecursion (λ other. bytes_eq word other ≡ false) (map word_of others))
+        let is : option_word choice ≡ one.0 = is_word (option_word choice) one.0 same in
+        let apart : AllByRecursion (λ word. bytes_eq one.0 word ≡ false) (map option_word others) =
+        subst (λ word. AllByRecursion (λ other. bytes_eq word other ≡ false)
+        (map option_word others))
         is
-        (IsDistinct-head bytes_eq (word_of choice) (map word_of others) row) in
+        (IsDistinct-head bytes_eq (option_word choice) (map option_word others) row) in
         let left : in_order (choice ∷ others) more ≡ in_order others more =
         ap (λ value. listed_one choice value ++ in_order others more)
         (ap (λ word. value_of word more) is ∙ absent) in
         let right : in_order (choice ∷ others) (one ∷ more) ≡ one ∷ in_order others more =
         (λ i. option_to_list (option_map (λ word. (is i, word))
-        (cond (same i) (Some one.1) (value_of (word_of choice) more)))
+        (cond (same i) (Some one.1) (value_of (option_word choice) more)))
         ++ in_order-other others one more apart i) in
         rw (left, right) (IsPermutation-refl (one ∷ in_order others more))
     at false same rest =
-        let prefix = listed_one choice (value_of (word_of choice) more) in
+        let prefix = listed_one choice (value_of (option_word choice) more) in
         let taken' : is_taken others one.0 one.1 ≡ true =
-        subst (λ test. (test && is_value (kind_of choice) one.1 || is_taken others one.0 one.1)
+        subst (λ test. (test && is_value (value_kind choice) one.1 || is_taken others one.0 one.1)
         ≡ true) same taken in
         let right : in_order (choice ∷ others) (one ∷ more) ≡ prefix
         ++ in_order others (one ∷ more) =
-        ap (λ test. listed_one choice (cond test (Some one.1) (value_of (word_of choice) more))
+        ap (λ test. listed_one choice (cond test (Some one.1) (value_of (option_word choice) more))
         ++ in_order others (one ∷ more)) same in
         rw right (IsPermutation-trans (one ∷ (prefix ++ in_order others more))
         (prefix ++ one ∷ in_order others more) (prefix ++ in_order others (one ∷ more))
@@ -197,7 +198,7 @@ in_order-more (choice ∷ others) one more row taken absent =
 
 -- so options that a row takes are the same in its order
 pub in_order-permutes : (choices : List Choice) (given : List Given)
-    → IsDistinct bytes_eq (map word_of choices) → IsDistinct bytes_eq (keys_of given)
+    → IsDistinct bytes_eq (map option_word choices) → IsDistinct bytes_eq (keys_of given)
     → All (IsTaken choices) given → IsPermutation given (in_order choices given)
 in_order-permutes choices [] row once taken = rw (in_order-none choices) (IsPermutation-refl [])
   where

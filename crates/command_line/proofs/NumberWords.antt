@@ -1,5 +1,5 @@
 -- Words of at most four digits, read as numbers.
-use Rattle.command_line.proofs.Vocabulary.{◌≡◌, ◌<◌, ◌≤◌, ◌&&◌, ℕ, suc, zero, nat_le, true, false, not, true≢false, [], ◌∷◌, length, Result, Ok, Err, refl, sym, ap, ◌∙◌, arith, list_all, all_ascii_digits, leb-true, lt-leb, ne_eqb, Word, number_of, is_number_within, is_value, is_file_name}
+use Rattle.command_line.proofs.Vocabulary.{◌≡◌, ◌<◌, ◌≤◌, ◌&&◌, ℕ, suc, zero, nat_le, true, false, not, true≢false, [], ◌∷◌, length, Result, Ok, Err, refl, sym, ap, ◌∙◌, arith, list_all, all_ascii_digits, leb-true, lt-leb, ne_eqb, Word, numeral_value, is_number_within, is_value, is_file_name}
 use Rattle.std.specs.Char.{is_ascii_digit}
 use Rattle.std.specs.Int.{IsInRange}
 use Rattle.std.specs.Str.Parse.{ParsesUnsigned}
@@ -15,7 +15,7 @@ all_digits [] = refl
 all_digits (byte ∷ bytes) = ap (λ rest. is_ascii_digit byte && rest) (all_digits bytes)
 
 -- that test finds decimal numerals, whose value is the number that they stand for
-pub numerals : IsNumeralModel (λ word. all_ascii_digits word ≡ true) number_of
+pub numerals : IsNumeralModel (λ word. all_ascii_digits word ≡ true) numeral_value
 numerals = numerals_by_value (λ word. all_ascii_digits word ≡ true) tells_all_ascii_digits
 
 module _ (least greatest : ℕ) (word : Word) where
@@ -28,7 +28,7 @@ module _ (least greatest : ℕ) (word : Word) where
       digits : all_ascii_digits word ≡ true
       digits = sym (all_digits word) ∙ each
 
-      small : number_of word < 10000
+      small : numeral_value word < 10000
       small = digits_value_short numerals word 4 digits short
 
       at : (long : ℕ) → length word ≡ long → is_number_within least greatest word ≡ false
@@ -41,7 +41,7 @@ module _ (least greatest : ℕ) (word : Word) where
     -- such a number has one to four digits
     pub few_digits : (1 ≤ length word) × (length word ≤ 4) × (all_ascii_digits word ≡ true)
     few_digits =
-        let bounds = nat_le least (number_of word) && nat_le (number_of word) greatest in
+        let bounds = nat_le least (numeral_value word) && nat_le (numeral_value word) greatest in
         let digits = all_ascii_digits word && bounds in
         let some = both (nat_le 1 (length word)) (nat_le (length word) 4 && digits) passes in
         let short = both (nat_le (length word) 4) digits some.1 in (
@@ -52,7 +52,7 @@ module _ (least greatest : ℕ) (word : Word) where
 
     -- so it is what the word is parsed as
     pub number_parsed : {E : Type 0} (read : Result ℕ E) → ParsesUnsigned 32 10 word read
-        → read ≡ Ok (number_of word)
+        → read ≡ Ok (numeral_value word)
     number_parsed read reads =
         let (some, short, digits) = few_digits in
         let small = digits_value_short numerals word 4 digits short in

@@ -1,5 +1,5 @@
 -- Words that mean a command pass the reader's test, and no others do.
-use Rattle.command_line.proofs.Vocabulary.{ℕ, ◌≡◌, ◌≤◌, nat_le, ◌∷◌, ◌++◌, ◌||◌, ◌&&◌, not, true, false, List, [], drop, length, map, string_bytes, String, Global, Option, Some, None, refl, sym, ap, ap₂, ◌∙◌, get_or, append-nil, true≢false, arith, bytes_eq, IsDistinct, list_all, IsPermutation, keys_of, nat_list_eq_equiv, leb-true, length-map, length_permutation, IsPermutation-sym, IsPermutation-map, All-permutation, list_any-IsPermutation, IsDistinct-IsPermutation, Form, Zero, Schedule, Synth, Check, Demo, Margin, Embed, Moves, Corners, Choice, Word, word_of, is_required, form_of, form_name, form_named, choices_of, table_bounds, takes_tables, Given, IsTaken, name_of, values_of, options_of, tables_of, are_tables, listed, option_words, is_file_name, HasValidTables, HasValidValues, IsCommand, IsSame, has_option, are_options, has_required, are_plain, before_tables, tables_among, has_values, IsPlainHead, IsPlain}
+use Rattle.command_line.proofs.Vocabulary.{ℕ, ◌≡◌, ◌≤◌, nat_le, ◌∷◌, ◌++◌, ◌||◌, ◌&&◌, not, true, false, List, [], drop, length, map, string_bytes, String, Global, Option, Some, None, refl, sym, ap, ap₂, ◌∙◌, get_or, append-nil, true≢false, arith, bytes_eq, IsDistinct, list_all, IsPermutation, keys_of, nat_list_eq_equiv, leb-true, length-map, length_permutation, IsPermutation-sym, IsPermutation-map, All-permutation, list_any-IsPermutation, IsDistinct-IsPermutation, Form, Zero, Schedule, Synth, Check, Demo, Margin, Embed, Moves, Corners, Choice, Word, option_word, is_required, command_form, form_name, form_named, choices_of, table_bounds, takes_tables, Given, IsTaken, command_name, values_of, options_of, tables_of, are_tables, listed, option_words, is_file_name, HasValidTables, HasValidValues, IsCommand, IsSame, has_option, are_options, has_required, are_plain, before_tables, tables_among, has_values, IsPlainHead, IsPlain}
 use Rattle.std.specs.Borrow.{Bor}
 use Rattle.command_line.specs.declared.command.Command.{Command}
 use Rattle.command_line.specs.declared.command.Command.TheVariants as command
@@ -20,12 +20,12 @@ one_form form other same =
     sym (form_named-name form) ∙ ap form_named same ∙ form_named-name other in
     cc
 
-pub same_form : (command other : Command) → name_of command ≡ name_of other
-    → form_of command ≡ form_of other
-same_form command other same = one_form (form_of command) (form_of other) same
+pub same_form : (command other : Command) → command_name command ≡ command_name other
+    → command_form command ≡ command_form other
+same_form command other same = one_form (command_form command) (command_form other) same
 
 -- no command has an option twice
-options_differ : (form : Form) → IsDistinct bytes_eq (map word_of (choices_of form))
+options_differ : (form : Form) → IsDistinct bytes_eq (map option_word (choices_of form))
 unfolding IsDistinct
 options_differ Synth = ((refl, (refl, tt)), ((refl, tt), (tt, tt)))
 options_differ Check =
@@ -42,8 +42,9 @@ options_differ form = ((refl, tt), (tt, tt))
 -- they stand in its order
 record FitsRow (command : Command) : Type 0 where
   once : IsDistinct bytes_eq (keys_of (options_of command))
-  required : has_required (choices_of (form_of command)) (option_words (options_of command)) ≡ true
-  ordered : options_of command ≡ in_order (choices_of (form_of command)) (options_of command)
+  required : has_required (choices_of (command_form command)) (option_words (options_of command))
+      ≡ true
+  ordered : options_of command ≡ in_order (choices_of (command_form command)) (options_of command)
 
 -- the options of each command do
 fits_row : (command : Command) → FitsRow command
@@ -71,9 +72,9 @@ fits_row command = record { once = ((refl, tt), (tt, tt)); required = refl; orde
 -- what stands after a command's name, with its options in some order, is cut into these and its
 -- tables
 record AreCut (command : Command) (given : List Given) : Type 0 where
-  options : before_tables (form_of command) (option_words given ++ tables_of command)
+  options : before_tables (command_form command) (option_words given ++ tables_of command)
       ≡ option_words given
-  tables : tables_among (form_of command) (option_words given ++ tables_of command)
+  tables : tables_among (command_form command) (option_words given ++ tables_of command)
       ≡ tables_of command
 
 are_cut : (command : Command) (given : List Given) → IsPermutation (options_of command) given
@@ -92,24 +93,25 @@ are_cut command given moved =
 
 -- what a command's words say of what stands before its tables
 options_pass : (command : Command) (given : List Given) → IsPermutation (options_of command) given
-    → HasValidValues command → are_plain (choices_of (form_of command)) (option_words given) ≡ true
+    → HasValidValues command → are_plain (choices_of (command_form command)) (option_words given)
+    ≡ true
 options_pass command given moved valid =
     let options = options_of command in
     let keys = IsPermutation-map (λ one. one.0) options given moved in
     let once = IsDistinct-IsPermutation bytes_eq nat_list_eq_equiv.symm (keys_of options)
     (keys_of given) keys (fits_row command).once in
     let taken =
-    All-permutation (IsTaken (choices_of (form_of command))) options given moved valid in
+    All-permutation (IsTaken (choices_of (command_form command))) options given moved valid in
     let stands : (word : Word) → has_option word (option_words given)
     ≡ has_option word (option_words options) =
     λ word. has_option-given word given
     ∙ sym (list_any-IsPermutation (bytes_eq word) (keys_of options) (keys_of given) keys)
     ∙ sym (has_option-given word options) in
-    let required : has_required (choices_of (form_of command)) (option_words given) ≡ true =
-    (λ i. list_all (λ choice. not (is_required choice) || stands (word_of choice) i)
-    (choices_of (form_of command)))
+    let required : has_required (choices_of (command_form command)) (option_words given) ≡ true =
+    (λ i. list_all (λ choice. not (is_required choice) || stands (option_word choice) i)
+    (choices_of (command_form command)))
     ∙ (fits_row command).required in
-    rw (are_options-given (choices_of (form_of command)) given once taken) required
+    rw (are_options-given (choices_of (command_form command)) given once taken) required
 
 -- what stands after the name passes, and so do the tables
 pub record Passes (form : Form) (others : List Word) : Type 0 where
@@ -121,7 +123,7 @@ pub command_passes : (words : List Word) (form : Form) (others : List Word)
     → Passes form others
 command_passes words form others is command means =
     let same = sym means.words_are ∙ is in
-    let name : form_of command ≡ form = one_form (form_of command) form
+    let name : command_form command ≡ form = one_form (command_form command) form
     (ap (λ (ws : List Word). get_or ws 0 []) same) in
     let rest : option_words means.given ++ tables_of command ≡ others =
     ap (λ (ws : List Word). drop 1 ws) same in
@@ -145,18 +147,19 @@ one_given (one ∷ more) (two ∷ others) same =
 -- the options of a command are those that stand, in the order of its row
 options_ordered : (command : Command) (given : List Given)
     → IsPermutation (options_of command) given
-    → options_of command ≡ in_order (choices_of (form_of command)) given
+    → options_of command ≡ in_order (choices_of (command_form command)) given
 options_ordered command given moved =
-    (fits_row command).ordered ∙ (λ i. listed (choices_of (form_of command))
-    (map (λ choice. sym (value_of-permutes (word_of choice) (options_of command) given
-    (fits_row command).once moved) i) (choices_of (form_of command))))
+    (fits_row command).ordered ∙ (λ i. listed (choices_of (command_form command))
+    (map (λ choice. sym (value_of-permutes (option_word choice) (options_of command) given
+    (fits_row command).once moved) i) (choices_of (command_form command))))
 
 -- words mean one command at most
 pub one_command : (words : List Word) (command other : Command) → IsCommand words command
     → IsCommand words other → IsSame command other
 one_command words command other means means' =
     let same = sym means.words_are ∙ means'.words_are in
-    let name : name_of command ≡ name_of other = ap (λ (ws : List Word). get_or ws 0 []) same in
+    let name : command_name command ≡ command_name other = ap (λ
+    (ws : List Word). get_or ws 0 []) same in
     let form = same_form command other name in
     let rest : option_words means.given ++ tables_of command
     ≡ option_words means'.given ++ tables_of other = ap (λ (ws : List Word). drop 1 ws) same in
@@ -181,7 +184,7 @@ pub has_values-given : (choices : List Choice) (given : List Given)
 has_values-given [] given = refl
 has_values-given (choice ∷ more) given =
     ap₂ (λ some rest. (not (is_required choice) || some) && rest)
-    (sym (has_option-value (word_of choice) given)) (has_values-given more given)
+    (sym (has_option-value (option_word choice) given)) (has_values-given more given)
 
 -- the words that a slice of the command line holds
 abbrev pub Tables : Type 0
@@ -190,11 +193,12 @@ Tables = Bor (List (String Global))
 -- a command of this form whose options have these values
 record Made (form : Form) (values : List (Option Word)) : Type 0 where
   command : Command
-  has_form : form_of command ≡ form
+  has_form : command_form command ≡ form
   has_values : values_of command ≡ values
 
 -- a command that takes no tables has none
-tables_none : (command : Command) → takes_tables (form_of command) ≡ false → tables_of command ≡ []
+tables_none : (command : Command) → takes_tables (command_form command) ≡ false → tables_of command
+    ≡ []
 tables_none (command.Corners bench tables) takes = absurd (true≢false takes)
 tables_none command takes = refl
 
@@ -321,7 +325,7 @@ module _ (words : List Word) (form : Form) (plain : IsPlainHead words form) wher
 
 -- so plain words mean the command that has these values and these tables
 pub means_command : (words tables : List Word) (form : Form) (plain : IsPlain words tables form)
-    → (command : Command) → form_of command ≡ form → values_of command
+    → (command : Command) → command_form command ≡ form → values_of command
     ≡ values_in (choices_of form) (spelled plain.head form plain.plain).given
     → tables_of command ≡ tables → IsCommand words command
 means_command words tables form plain command has values stands =

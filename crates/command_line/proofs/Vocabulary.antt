@@ -21,9 +21,9 @@ pub use Rattle.clap.specs.Takes.{is_given, is_valid, takes, default_passes, leve
 unfoldable pub use Rattle.clap.specs.Walk.{walked}
 pub use Rattle.clap.specs.Walk.{Row, Rule, arg_by_id, arg_by_long, rows_of, first_of, nothing_held, rows_after, Held, Text, Walk, option, at_row, default_rows, has_row, more_values, reading_by, settled, walk, walk_from, with_default}
 pub use Rattle.clap.specs.Words.{found_of, new_app, with_rule, app_of}
-pub use Rattle.command_line.specs.CommandTable.{Word, word_of, kind_of, is_required, form_name, choices_of, form_of, form_named, table_bounds, takes_tables}
+pub use Rattle.command_line.specs.CommandTable.{Word, option_word, value_kind, is_required, form_name, choices_of, command_form, form_named, table_bounds, takes_tables}
 unfoldable pub use Rattle.command_line.specs.Commands.{is_period, spells_quotient}
-pub use Rattle.command_line.specs.Commands.{Given, IsTaken, is_value, is_taken, is_file_name, option_words, listed_one, listed, number_of, is_number_within, name_of, values_of, options_of, tables_of, are_tables, HasValidTables, HasValidValues, IsCommand, IsSame}
+pub use Rattle.command_line.specs.Commands.{Given, IsTaken, is_value, is_taken, is_file_name, option_words, listed_one, listed, numeral_value, is_number_within, command_name, values_of, options_of, tables_of, are_tables, HasValidTables, HasValidValues, IsCommand, IsSame}
 pub use Rattle.command_line.specs.Parsers.{long_name, parser_for, rule_for}
 unfoldable pub use Rattle.command_line.specs.PlainWords.{has_option, are_options}
 pub use Rattle.command_line.specs.PlainWords.{has_required, row_values, IsPlainHead, are_plain, before_tables, tables_among, has_values, IsPlain, is_option}

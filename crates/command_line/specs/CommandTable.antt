@@ -41,24 +41,24 @@ table_bounds Corners = (1, 16)
 table_bounds form = (0, 0)
 
 -- the word of an option
-abbrev pub word_of : Choice → Word
-word_of option.Bench = codes "--bench"
-word_of option.Tech = codes "--tech"
-word_of option.TechIfWanted = codes "--tech"
-word_of option.Placement = codes "--pl"
-word_of option.Report = codes "--report"
-word_of option.Topology = codes "--topology"
-word_of option.MovesFile = codes "--moves"
-word_of option.Registers = codes "--registers"
-word_of option.Seed = codes "--seed"
-word_of option.Period = codes "--period"
+abbrev pub option_word : Choice → Word
+option_word option.Bench = codes "--bench"
+option_word option.Tech = codes "--tech"
+option_word option.TechIfWanted = codes "--tech"
+option_word option.Placement = codes "--pl"
+option_word option.Report = codes "--report"
+option_word option.Topology = codes "--topology"
+option_word option.MovesFile = codes "--moves"
+option_word option.Registers = codes "--registers"
+option_word option.Seed = codes "--seed"
+option_word option.Period = codes "--period"
 
 -- what the value of an option is
-abbrev pub kind_of : Choice → ValueKind
-kind_of option.Registers = kind.Registers
-kind_of option.Seed = kind.Seed
-kind_of option.Period = kind.Period
-kind_of _ = kind.File
+abbrev pub value_kind : Choice → ValueKind
+value_kind option.Registers = kind.Registers
+value_kind option.Seed = kind.Seed
+value_kind option.Period = kind.Period
+value_kind _ = kind.File
 
 -- whether an option has to stand
 abbrev pub is_required : Choice → Bool
@@ -66,17 +66,17 @@ is_required option.TechIfWanted = false
 is_required _ = true
 
 -- the command without the values of its options
-abbrev pub form_of : Command → Form
-form_of (command.Zero bench tech) = Zero
-form_of (command.Period bench tech) = Period
-form_of (command.Schedule bench tech) = Schedule
-form_of (command.Synth bench tech pl) = Synth
-form_of (command.Check bench tech pl report) = Check
-form_of (command.Demo registers seed) = Demo
-form_of (command.Margin bench tech period) = Margin
-form_of (command.Embed bench tech pl topology) = Embed
-form_of (command.Moves bench tech pl moves) = Moves
-form_of (command.Corners bench tables) = Corners
+abbrev pub command_form : Command → Form
+command_form (command.Zero bench tech) = Zero
+command_form (command.Period bench tech) = Period
+command_form (command.Schedule bench tech) = Schedule
+command_form (command.Synth bench tech pl) = Synth
+command_form (command.Check bench tech pl report) = Check
+command_form (command.Demo registers seed) = Demo
+command_form (command.Margin bench tech period) = Margin
+command_form (command.Embed bench tech pl topology) = Embed
+command_form (command.Moves bench tech pl moves) = Moves
+command_form (command.Corners bench tables) = Corners
 
 -- the name of a command
 abbrev pub form_name : Form → Word
@@ -100,7 +100,7 @@ letter_of kind.Period = codes " P"
 -- an option with its value in the usage line, in brackets where it may be left out
 abbrev pub option_usage : Choice → Word
 option_usage choice =
-    let words = word_of choice ++ letter_of (kind_of choice) in
+    let words = option_word choice ++ letter_of (value_kind choice) in
     if is_required choice then codes " " ++ words else codes " [" ++ words ++ codes "]"
 
 -- whether a command takes delay tables as plain words

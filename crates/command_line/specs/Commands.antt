@@ -11,7 +11,7 @@ use Rattle.command_line.specs.declared.table.Choice.{Choice}
 use Rattle.command_line.specs.declared.table.ValueKind.{ValueKind}
 use Rattle.command_line.specs.declared.table.ValueKind.TheVariants as kind
 use Rattle.command_line.specs.declared.table.Form.{Form}
-use Rattle.command_line.specs.CommandTable.{Word, word_of, kind_of, form_of, form_name, choices_of, table_bounds}
+use Rattle.command_line.specs.CommandTable.{Word, option_word, value_kind, command_form, form_name, choices_of, table_bounds}
 
 -- an option and its value
 abbrev pub Given : Type 0
@@ -40,7 +40,7 @@ tables_of command = []
 
 -- an option with its value, if it has one
 abbrev pub listed_one : Choice → Option Word → List Given
-listed_one choice value = option_to_list (option_map (λ word. (word_of choice, word)) value)
+listed_one choice value = option_to_list (option_map (λ word. (option_word choice, word)) value)
 
 -- options with those values that they have
 abbrev pub listed : List Choice → List (Option Word) → List Given
@@ -48,12 +48,12 @@ listed (choice ∷ choices) (value ∷ values) = listed_one choice value ++ list
 listed _ _ = []
 
 -- the name of a command
-abbrev pub name_of : Command → Word
-name_of command = form_name (form_of command)
+abbrev pub command_name : Command → Word
+command_name command = form_name (command_form command)
 
 -- the options of a command, with their values
 abbrev pub options_of : Command → List Given
-options_of command = listed (choices_of (form_of command)) (values_of command)
+options_of command = listed (choices_of (command_form command)) (values_of command)
 
 -- a file's name is one or more bytes, of which the first is no `-`
 abbrev pub is_file_name : Word → Bool
@@ -61,14 +61,14 @@ is_file_name [] = false
 is_file_name (byte ∷ bytes) = not (byte == 45)
 
 -- the number that decimal digits stand for; leading zeros are allowed
-abbrev pub number_of : Word → ℕ
-number_of digits = digits_value 10 digits
+abbrev pub numeral_value : Word → ℕ
+numeral_value digits = digits_value 10 digits
 
 -- one to four digits, for a number within these bounds
 abbrev pub is_number_within : (least greatest : ℕ) → Word → Bool
 is_number_within least greatest word =
     nat_le 1 (length word) && (nat_le (length word) 4 && (all_ascii_digits word
-    && (nat_le least (number_of word) && nat_le (number_of word) greatest)))
+    && (nat_le least (numeral_value word) && nat_le (numeral_value word) greatest)))
 
 -- the spelling in lowest terms of some number below the one bound over some number from 1 up to the
 -- other
@@ -92,7 +92,8 @@ is_value kind.Period value = is_period value
 -- the word is one of these options, which takes this value
 abbrev pub is_taken : List Choice → (option value : Word) → Bool
 is_taken choices option value =
-    list_any (λ choice. bytes_eq (word_of choice) option && is_value (kind_of choice) value) choices
+    list_any (λ choice. bytes_eq (option_word choice) option && is_value
+    (value_kind choice) value) choices
 
 -- the option is one of these, and takes its value
 abbrev pub IsTaken : List Choice → Given → Type 0
@@ -100,7 +101,7 @@ IsTaken choices one = IsTrue (is_taken choices one.0 one.1)
 
 -- so it is with each option of a command
 abbrev pub HasValidValues : Command → Type 0
-HasValidValues command = All (IsTaken (choices_of (form_of command))) (options_of command)
+HasValidValues command = All (IsTaken (choices_of (command_form command))) (options_of command)
 
 -- the words are as many files' names as a command of this form takes delay tables
 abbrev pub are_tables : Form → List Word → Bool
@@ -109,7 +110,7 @@ are_tables form tables = nat_le (table_bounds form).0 (length tables)
 
 -- so are those of a command
 abbrev pub HasValidTables : Command → Type 0
-HasValidTables command = IsTrue (are_tables (form_of command) (tables_of command))
+HasValidTables command = IsTrue (are_tables (command_form command) (tables_of command))
 
 -- options as words: each is followed by its value
 abbrev pub option_words : List Given → List Word
@@ -118,13 +119,13 @@ option_words given = flat_map (λ one. one.0 ∷ one.1 ∷ []) given
 -- the words are the name of the command, after it its options in some order, and then its tables
 pub record IsCommand (words : List Word) (command : Command) : Type 0 where
   pub given : List Given
-  pub words_are : words ≡ name_of command ∷ (option_words given ++ tables_of command)
+  pub words_are : words ≡ command_name command ∷ (option_words given ++ tables_of command)
   pub options : IsPermutation (options_of command) given
   pub values : HasValidValues command
   pub tables : HasValidTables command
 
 -- the commands have one name, the same options with the same values, and the same tables
 pub record IsSame (command other : Command) : Type 0 where
-  pub name : name_of command ≡ name_of other
+  pub name : command_name command ≡ command_name other
   pub options : options_of command ≡ options_of other
   pub tables : tables_of command ≡ tables_of other

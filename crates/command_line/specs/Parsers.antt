@@ -5,7 +5,7 @@ use Rattle.clap.specs.Words.{App, Rule, new_app, new_rule, with_rule}
 use Rattle.clap.specs.declared.builder.action.ArgAction.TheVariants.{Set}
 use Rattle.command_line.specs.declared.table.Form.{Form}
 use Rattle.command_line.specs.declared.table.Choice.{Choice}
-use Rattle.command_line.specs.CommandTable.{Word, word_of, is_required, form_name, choices_of}
+use Rattle.command_line.specs.CommandTable.{Word, option_word, is_required, form_name, choices_of}
 
 -- an option's word without the two hyphens before
 abbrev pub long_name : Word → Word
@@ -13,8 +13,8 @@ long_name option = if bytes_eq (take 2 option) (codes "--") then drop 2 option e
 
 -- the argument for an option, which takes one value
 abbrev pub rule_for : Choice → Rule
-rule_for choice = record (new_rule (word_of choice)) {
-  long = Some (long_name (word_of choice));
+rule_for choice = record (new_rule (option_word choice)) {
+  long = Some (long_name (option_word choice));
   required = is_required choice;
   action = Some Set;
 }

@@ -4,7 +4,7 @@ use Rattle.std.specs.Str.{bytes_eq}
 use Rattle.std.specs.List.{list_all}
 use Rattle.command_line.specs.declared.table.Form.{Form}
 use Rattle.command_line.specs.declared.table.Choice.{Choice}
-use Rattle.command_line.specs.CommandTable.{Word, word_of, is_required, form_name, choices_of, takes_tables}
+use Rattle.command_line.specs.CommandTable.{Word, option_word, is_required, form_name, choices_of, takes_tables}
 use Rattle.command_line.specs.Commands.{is_taken, are_tables}
 
 -- the option stands among options with values
@@ -26,7 +26,7 @@ are_options choices (word ∷ value ∷ others) =
 -- each required option stands among the words
 abbrev pub has_required : List Choice → List Word → Bool
 has_required choices words =
-    list_all (λ choice. not (is_required choice) || has_option (word_of choice) words) choices
+    list_all (λ choice. not (is_required choice) || has_option (option_word choice) words) choices
 
 -- the words are options of a command, each at most once and each required one among them
 abbrev pub are_plain : List Choice → List Word → Bool
@@ -58,12 +58,12 @@ tables_among form words =
 
 -- the values of a row's options
 abbrev pub row_values : (Word → Option Word) → List Choice → List (Option Word)
-row_values value_of choices = map (λ choice. value_of (word_of choice)) choices
+row_values value_of choices = map (λ choice. value_of (option_word choice)) choices
 
 -- the value of the option at a place of a row, if it has one
 abbrev pub value_in_row : (Word → Option Word) → List Choice → (place : ℕ) → Option Word
 value_in_row value_of choices place =
-    option_and_then (λ choice. value_of (word_of choice)) (slice_get choices place)
+    option_and_then (λ choice. value_of (option_word choice)) (slice_get choices place)
 
 -- each option that is required has a value
 abbrev pub has_values : List Choice → List (Option Word) → Bool

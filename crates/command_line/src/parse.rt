@@ -1,7 +1,7 @@
 //! Plain words, read by a parser for the options of their command.
 
 ghost use Rattle.std.specs.Prelude.{◌≡◌, map, is_some, option_map, Some, string_bytes, true, false, IfOk, IfErr};
-ghost use Rattle.command_line.specs.Vocabulary.{app_of, rule_of, found_of, first_value, choices_of, form_of, values_of, tables_of, are_tables, IsCommand, has_values, row_values, value_in_row, IsPlain, long_name, rule_for, parser_for};
+ghost use Rattle.command_line.specs.Vocabulary.{app_of, rule_of, found_of, first_value, choices_of, command_form, values_of, tables_of, are_tables, IsCommand, has_values, row_values, value_in_row, IsPlain, long_name, rule_for, parser_for};
 ghost use Rattle.clap.specs.Words.{kind_of};
 
 use crate::command::Command;
@@ -33,7 +33,7 @@ fn command_of<'a>(form: Form, matches: &ArgMatches<'a>, tables: &'a [String]) ->
     requires values { has_values (choices_of form)
         (row_values (first_value (found_of matches.now)) (choices_of form)) ≡ true }
     requires tables { are_tables form (map string_bytes tables.now) ≡ true }
-    ensures form { form_of result ≡ form }
+    ensures form { command_form result ≡ form }
     ensures tables { tables_of result ≡ map string_bytes tables.now }
     ensures values { values_of result
         ≡ row_values (first_value (found_of matches.now)) (choices_of form) }

@@ -1,8 +1,8 @@
 //! The table of commands: the name and the options of each, as they stand in the usage line.
 
 ghost use Rattle.std.specs.Prelude.{◌≡◌, find, IfSome};
-ghost use Rattle.command_line.specs.Vocabulary.{bytes_eq, Form, forms, form_name, form_named, choices_of, table_bounds, word_of, is_required};
-ghost use Rattle.command_line.specs.CommandTable.{kind_of};
+ghost use Rattle.command_line.specs.Vocabulary.{bytes_eq, Form, forms, form_name, form_named, choices_of, table_bounds, option_word, is_required};
+ghost use Rattle.command_line.specs.CommandTable.{value_kind};
 
 use Choice::{Bench, MovesFile, Placement, Registers, Report, Seed, Tech, TechIfWanted, Topology};
 use Form::{Check, Corners, Demo, Embed, Margin, Moves, Period, Schedule, Synth, Zero};
@@ -102,7 +102,7 @@ fn first_named(forms: &[Form], name: &str) -> Option<Form>
 impl Choice {
     /// The word that stands before the value.
     pub fn word(self) -> &'static str
-        ensures { result.now ≡ word_of self }
+        ensures { result.now ≡ option_word self }
     {
         match self {
             Bench => "--bench",
@@ -118,7 +118,7 @@ impl Choice {
     }
 
     pub fn kind(self) -> ValueKind
-        ensures { result ≡ kind_of self }
+        ensures { result ≡ value_kind self }
     {
         match self {
             Registers => ValueKind::Registers,

@@ -6,7 +6,7 @@ use Rattle.bench_reader.proofs.OneFault.{no_fault}
 use Rattle.path_delays.specs.JoinedPairs.{ShowsTooMany}
 use Rattle.path_delays.specs.declared.fault.PairFault.{PairFault}
 use Rattle.path_delays.specs.declared.fault.PairFault.TheVariants as pairs
-use Rattle.cts_engine.specs.Accepted.{TellBoth, IsCircuitRefusal, IsRefusal}
+use Rattle.cts_engine.specs.Accepted.{TellBoth, IsCircuitRefusal, IsProblemRefusal}
 use Rattle.cts_engine.specs.declared.refusals.Refusal.{Refusal}
 use Rattle.cts_engine.specs.declared.refusals.Refusal.TheVariants as refusals
 
@@ -29,7 +29,7 @@ module _ (bench tech : List ℕ) where
   both_refused refusals.NoMemory cause = tt
   both_refused refusal cause = inr (refusal, (λ e. cc e), cause)
 
-  pub all_refused : (pl : List ℕ) (refusal : Refusal) → IsRefusal bench tech pl refusal
+  pub all_refused : (pl : List ℕ) (refusal : Refusal) → IsProblemRefusal bench tech pl refusal
       → FailsFor (AreRefused bench tech pl) (refusal_failure refusal)
   all_refused pl refusals.NoMemory cause = tt
   all_refused pl refusal cause = inr (refusal, (λ e. cc e), cause)

@@ -5,7 +5,7 @@ use Rattle.cts_model.specs.declared.circuit.Circuit.{Circuit}
 use Rattle.cts_model.specs.declared.problem.Problem.{Problem}
 use Rattle.cts_model.specs.declared.tech.Tech.{Tech}
 use Rattle.cts_model.specs.Vocabulary.{JoinsMoreThan}
-use Rattle.cts_engine.specs.Accepted.{TellBoth, TellAll, IsCircuitRefusal, IsRefusal}
+use Rattle.cts_engine.specs.Accepted.{TellBoth, TellAll, IsCircuitRefusal, IsProblemRefusal}
 use Rattle.cts_engine.specs.declared.refusals.Refusal.{Refusal}
 use Rattle.cts_engine.specs.declared.refusals.Refusal.TheVariants as refusals
 use Rattle.cts_c.specs.declared.failure.Failure.{Failure}
@@ -30,7 +30,7 @@ AreBothRefused bench tech = (AreBothShort bench tech → ⊥)
 
 abbrev pub AreRefused : (bench tech pl : List ℕ) → Type 0
 AreRefused bench tech pl = (AreAllShort bench tech pl → ⊥)
-    ⊎ ((refusal : Refusal) × (refusal ≢ refusals.NoMemory) × IsRefusal bench tech pl refusal)
+    ⊎ ((refusal : Refusal) × (refusal ≢ refusals.NoMemory) × IsProblemRefusal bench tech pl refusal)
 
 -- so it is, or they tell a circuit and paths join more pairs of its registers than a circuit may
 -- have

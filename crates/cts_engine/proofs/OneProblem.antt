@@ -1,6 +1,6 @@
 -- The texts of a problem tell one circuit, one table and one problem, and texts that tell a problem
 -- have no refusal.
-use Rattle.cts_engine.proofs.Vocabulary.{ℕ, ◌≡◌, ◌⊎◌, inl, inr, Bool, true, false, ◌==◌, List, length, Result, Ok, Err, IfOk, IfErr, refl, ap, sym, ◌∙◌, subst, Circuit, Places, Problem, Signal, Tech, AcceptsTable, IsWithHost, IsProblem, AreUsedKinds, not_both, one_value, AcceptsNetlist, TechFault, PlaceFault, AcceptsPlacement, Refusal, IsHostedBy, TellsDelays, TellBoth, TellAll, IsTableOf, IsPlacementOf, HasTableFault, HasPlacesFault, IsRefusal}
+use Rattle.cts_engine.proofs.Vocabulary.{ℕ, ◌≡◌, ◌⊎◌, inl, inr, Bool, true, false, ◌==◌, List, length, Result, Ok, Err, IfOk, IfErr, refl, ap, sym, ◌∙◌, subst, Circuit, Places, Problem, Signal, Tech, AcceptsTable, IsWithHost, IsProblem, AreUsedKinds, not_both, one_value, AcceptsNetlist, TechFault, PlaceFault, AcceptsPlacement, Refusal, IsHostedBy, TellsDelays, TellBoth, TellAll, IsTableOf, IsPlacementOf, HasTableFault, HasPlacesFault, IsProblemRefusal}
 use Rattle.std.proofs.Common.{MatchBool}
 use Rattle.std.proofs.Props.{props}
 use Rattle.cts_model.specs.Vocabulary.{signals_of}
@@ -137,7 +137,7 @@ module _ (netlist table placement : List ℕ) where
 
   -- nor have texts that tell a problem a refusal
   unrefused : (problem : Problem) → TellAll netlist table placement problem → (refusal : Refusal)
-      → IsRefusal netlist table placement refusal → refusal ≡ refusals.NoMemory
+      → IsProblemRefusal netlist table placement refusal → refusal ≡ refusals.NoMemory
   unrefused problem denotes (refusals.Bench fault) has =
       absurd (no_fault netlist fault denotes.tell.accepts.netlist has)
   unrefused problem denotes (refusals.Tech fault) (accepted, has) =
@@ -156,7 +156,7 @@ module _ (netlist table placement : List ℕ) where
   -- so an answer that is right on them is their problem, or want of memory
   pub denoted_alone : (result : Result Problem Refusal)
       → IfOk result (TellAll netlist table placement)
-      → IfErr result (IsRefusal netlist table placement)
+      → IfErr result (IsProblemRefusal netlist table placement)
       → (problem : Problem) → TellAll netlist table placement problem
       → (result ≡ Ok problem) ⊎ (result ≡ Err refusals.NoMemory)
   denoted_alone (Ok other) denoted cause problem denotes =

@@ -1,7 +1,7 @@
 -- What the texts of a problem tell keeps to what a problem is: its delays serve its circuit, which
 -- has the host where the table gives it a place, and its registers have places that aren't far
 -- away.
-use Rattle.cts_engine.proofs.Vocabulary.{◌≡◌, ◌≢◌, ◌≤◌, ◌^◌, ◌==◌, ◌↔◌, ℕ, ℤ, pos, negsuc, Bool, true, false, IsTrue, List, [], ◌∷◌, length, map, ◌++◌, cond, Option, Some, None, Result, Ok, Err, refl, sym, ap, ◌∙◌, subst, true≢false, arith, Decides-eqb, ints, get_or_default, length-map, All-append, All-cons, All-nil, option_map, option_to_list, Circuit, Places, Point, Signal, Tech, GivesKinds, has_host, host_signal, delay_of, HasNoHost, IsWithHost, is_gate, IsLoop, IsBelow, IsPointBelow, GivesUsedKinds, IsProblem, AreUsedKinds, AcceptsPlacement, place_by, place_of, places_after, register_nodes, IsHostedBy}
+use Rattle.cts_engine.proofs.Vocabulary.{◌≡◌, ◌≢◌, ◌≤◌, ◌^◌, ◌==◌, ◌↔◌, ℕ, ℤ, pos, negsuc, Bool, true, false, IsTrue, List, [], ◌∷◌, length, map, ◌++◌, cond, Option, Some, None, Result, Ok, Err, refl, sym, ap, ◌∙◌, subst, true≢false, arith, Decides-eqb, ints, get_or_default, length-map, All-append, All-cons, All-nil, option_map, option_to_list, Circuit, Places, Point, Signal, Tech, GivesKinds, has_host, host_signal, delay_of, HasNoHost, IsWithHost, is_gate, IsLoop, IsBelow, IsPointBelow, GivesUsedKinds, IsProblem, AreUsedKinds, AcceptsPlacement, place_by, placed_at, places_after, register_nodes, IsHostedBy}
 use Rattle.std.proofs.Common.{nat_abs, MatchBool, All}
 use Rattle.std.specs.Result.{result_ok}
 use Rattle.std.specs.Str.{bytes_eq}
@@ -105,7 +105,7 @@ near_node node point told = at (micros_of node.x) (micros_of node.y) refl refl t
 
 -- and so is each place that lines give
 near_given : (earlier lines : List (List ℕ)) (name : List ℕ) (point : Point)
-    → place_of (places_after earlier lines) name ≡ Some point → IsPointBelow 1000000000000001 point
+    → placed_at (places_after earlier lines) name ≡ Some point → IsPointBelow 1000000000000001 point
 near_given earlier [] name point found = cc
 near_given earlier (line ∷ later) name point found =
     at (entry_after earlier line) found (near_given (earlier ++ line ∷ []) later name point)
@@ -114,24 +114,25 @@ near_given earlier (line ∷ later) name point found =
     rest = places_after (earlier ++ line ∷ []) later
 
     hit : (b : Bool) (there : Point) → IsPointBelow 1000000000000001 there
-        → cond b (Some there) (place_of rest name) ≡ Some point
-        → (place_of rest name ≡ Some point → IsPointBelow 1000000000000001 point)
+        → cond b (Some there) (placed_at rest name) ≡ Some point
+        → (placed_at rest name ≡ Some point → IsPointBelow 1000000000000001 point)
         → IsPointBelow 1000000000000001 point
     hit true there near found later_near =
         let same : there ≡ point = cc found in subst (IsPointBelow 1000000000000001) same near
     hit false there near found later_near = later_near found
 
     by : (node : Node) (told : Result Point NumberFault) → point_of node.x node.y ≡ told
-        → place_of (option_to_list (option_map (λ p. (node.name, p)) (result_ok told)) ++ rest) name
-        ≡ Some point → (place_of rest name ≡ Some point → IsPointBelow 1000000000000001 point)
+        → placed_at (option_to_list (option_map (λ p. (node.name, p)) (result_ok told))
+        ++ rest) name
+        ≡ Some point → (placed_at rest name ≡ Some point → IsPointBelow 1000000000000001 point)
         → IsPointBelow 1000000000000001 point
     by node (Err fault) known found later_near = later_near found
     by node (Ok there) known found later_near =
         hit (bytes_eq name node.name) there (near_node node there known) found later_near
 
     at : (entry : Option Entry)
-        → place_of (option_to_list (place_by entry) ++ rest) name ≡ Some point
-        → (place_of rest name ≡ Some point → IsPointBelow 1000000000000001 point)
+        → placed_at (option_to_list (place_by entry) ++ rest) name ≡ Some point
+        → (placed_at rest name ≡ Some point → IsPointBelow 1000000000000001 point)
         → IsPointBelow 1000000000000001 point
     at None found later_near = later_near found
     at (Some Blank) found later_near = later_near found
@@ -141,14 +142,14 @@ near_given earlier (line ∷ later) name point found =
 
 -- and so are all
 near_all : (lines names : List (List ℕ)) (points : List Point)
-    → map (place_of (places_after [] lines)) names ≡ map Some points
+    → map (placed_at (places_after [] lines)) names ≡ map Some points
     → All (IsPointBelow 1000000000000001) points
 near_all lines [] [] are = All-nil (IsPointBelow 1000000000000001)
 near_all lines [] (point ∷ points) are = cc
 near_all lines (name ∷ names) [] are = cc
 near_all lines (name ∷ names) (point ∷ points) are =
-    let first : place_of (places_after [] lines) name ≡ Some point = cc are in
-    let rest : map (place_of (places_after [] lines)) names ≡ map Some points = cc are in
+    let first : placed_at (places_after [] lines) name ≡ Some point = cc are in
+    let rest : map (placed_at (places_after [] lines)) names ≡ map Some points = cc are in
     All-cons (IsPointBelow 1000000000000001) point points (near_given [] lines name point first)
     (near_all lines names points rest)
 
@@ -162,7 +163,7 @@ pub problem_of : (circuit : Circuit) (tech : Tech) (places : Places) (text : Lis
 problem_of circuit tech places text acyclic kinds host accepts =
     let gives = accepted_gives text circuit tech.source tech.host places accepts in
     let nodes = register_nodes circuit tech.host in
-    let given = place_of (places_after [] (lines_of text)) in
+    let given = placed_at (places_after [] (lines_of text)) in
     let as_many : length nodes ≡ length circuit.registers = length-map circuit.registers _ in
     record {
       acyclic = acyclic;

@@ -1,5 +1,5 @@
 -- What a text that isn't read leaves of the texts of a problem: a refusal, or want of memory.
-use Rattle.cts_engine.proofs.Vocabulary.{◌≡◌, ◌⊎◌, inl, inr, ℕ, Bool, List, Err, subst, told_fault, Circuit, Tech, AreUsedKinds, AcceptsNetlist, RefusesNetlist, TechFault, PlaceFault, places_in, Refusal, TellBoth, bench_refusal_of, tech_refusal_of, places_refusal_of, IsCircuitRefusal, IsRefusal}
+use Rattle.cts_engine.proofs.Vocabulary.{◌≡◌, ◌⊎◌, inl, inr, ℕ, Bool, List, Err, subst, told_fault, Circuit, Tech, AreUsedKinds, AcceptsNetlist, RefusesNetlist, TechFault, PlaceFault, places_in, Refusal, TellBoth, bench_refusal_of, tech_refusal_of, places_refusal_of, IsCircuitRefusal, IsProblemRefusal}
 use Rattle.cts_base.specs.LineFormats.{IsToldBy}
 use Rattle.bench_reader.specs.declared.fault.BenchFault.{BenchFault}
 use Rattle.bench_reader.specs.declared.fault.BenchFault.TheVariants as bench
@@ -36,7 +36,7 @@ module _ (netlist table : List ℕ) where
   module _ (placement : List ℕ) where
     -- what refuses the two refuses the three
     pub circuit_refused : (refusal : Refusal) → IsCircuitRefusal netlist table refusal
-        → IsRefusal netlist table placement refusal
+        → IsProblemRefusal netlist table placement refusal
     circuit_refused (refusals.Bench fault) cause = cause
     circuit_refused (refusals.Tech fault) cause = cause
     circuit_refused (refusals.Places fault) cause = absurd cause
@@ -46,7 +46,7 @@ module _ (netlist table : List ℕ) where
     pub places_refused : (circuit : Circuit) (tech : Tech) → TellBoth netlist table circuit tech
         → (fault : PlaceFault)
         → IsToldBy place.NoMemory (places_in placement circuit tech.source tech.host) (Err fault)
-        → IsRefusal netlist table placement (places_refusal_of fault)
+        → IsProblemRefusal netlist table placement (places_refusal_of fault)
     places_refused circuit tech tell place.NoMemory told = tt
     places_refused circuit tech tell fault told = (
       tell.accepts.netlist,

@@ -51,10 +51,10 @@ pub use Rattle.delay_tables.specs.declared.fault.TechFault.{TechFault}
 pub use Rattle.outcomes.specs.Syntheses.{IsReportWith, IsSynthesis, ShowsSynthesis}
 pub use Rattle.outcomes.specs.declared.period.PeriodOutcome.TheVariants.{Found, Never}
 pub use Rattle.place_down.specs.Trees.{reach_in, IsPlacedTree, IsTreeSource, HasTreeNumbers}
-pub use Rattle.place_reader.specs.Placements.{AcceptsPlacement, place_by, place_of, places_after, register_nodes, places_in}
+pub use Rattle.place_reader.specs.Placements.{AcceptsPlacement, place_by, placed_at, places_after, register_nodes, places_in}
 pub use Rattle.place_reader.specs.declared.fault.PlaceFault.{PlaceFault}
 pub use Rattle.schedule.specs.Schedules.{AreWithinWeights, IsAdmittedBy, IsLeastScheduleOf}
-pub use Rattle.cts_engine.specs.Accepted.{IsHostedBy, TellBoth, TellsDelays, TellAll, IsTableOf, IsPlacementOf, HasTableFault, HasPlacesFault, IsRefusal, bench_refusal_of, tech_refusal_of, places_refusal_of, IsCircuitRefusal}
+pub use Rattle.cts_engine.specs.Accepted.{IsHostedBy, TellBoth, TellsDelays, TellAll, IsTableOf, IsPlacementOf, HasTableFault, HasPlacesFault, IsProblemRefusal, bench_refusal_of, tech_refusal_of, places_refusal_of, IsCircuitRefusal}
 pub use Rattle.cts_engine.specs.ClockTrees.{IsClockTree, AreTreeLists}
 pub use Rattle.cts_engine.specs.PairConstraints.{AreConstraintsOf, HasSmallPairs}
 pub use Rattle.cts_engine.specs.RegisterTimes.{AreTreeArrivals, AreTimes, HasLeastPeriod}

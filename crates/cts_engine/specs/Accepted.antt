@@ -94,8 +94,8 @@ IsCircuitRefusal netlist table (refusals.Places fault) = ⊥
 IsCircuitRefusal netlist table refusals.NoMemory = Unit {0}
 
 -- why the three are: the placement has a fault only where the two before it are accepted
-abbrev pub IsRefusal : (netlist table placement : List ℕ) → Refusal → Type 0
-IsRefusal netlist table placement (refusals.Places fault) =
+abbrev pub IsProblemRefusal : (netlist table placement : List ℕ) → Refusal → Type 0
+IsProblemRefusal netlist table placement (refusals.Places fault) =
     IsNetlist netlist × IsTableOf netlist table
     × HasPlacesFault netlist table placement fault
-IsRefusal netlist table placement refusal = IsCircuitRefusal netlist table refusal
+IsProblemRefusal netlist table placement refusal = IsCircuitRefusal netlist table refusal

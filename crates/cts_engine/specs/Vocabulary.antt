@@ -11,7 +11,7 @@ pub use Rattle.outcomes.specs.Syntheses.{IsReportWith}
 pub use Rattle.outcomes.specs.SynthesisOutcomes.{IsOutcome, IsOutcomeWith, IsShownOutcome}
 pub use Rattle.path_delays.specs.JoinedPairs.{ShowsTooMany, ArePairs}
 pub use Rattle.place_down.specs.Trees.{IsTreeSource}
-pub use Rattle.cts_engine.specs.Accepted.{IsHostedBy, TellsDelays, TellBoth, TellAll, IsCircuitRefusal, IsRefusal}
+pub use Rattle.cts_engine.specs.Accepted.{IsHostedBy, TellsDelays, TellBoth, TellAll, IsCircuitRefusal, IsProblemRefusal}
 pub use Rattle.cts_engine.specs.ClockTrees.{IsClockTree, IsMadeTree}
 pub use Rattle.cts_engine.specs.CyclePaths.{IsShownBy}
 pub use Rattle.cts_engine.specs.RegisterTimes.{IsTiming, HasLeastPeriod, AreTimes}

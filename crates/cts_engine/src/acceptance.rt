@@ -1,5 +1,5 @@
 ghost use Rattle.std.specs.Prelude.{◌≡◌, ◌≢◌, ◌≤◌, ◌↔◌, ◌⊎◌, Bool, IsTrue, List, [], length, Ok, Err, IfOk, IfErr};
-ghost use Rattle.cts_engine.specs.Vocabulary.{Problem, has_host, HasNoHost, AreUsedKinds, GivesUsedKinds, RefusesTable, IsHostedBy, TellsDelays, TellBoth, TellAll, IsCircuitRefusal, IsRefusal};
+ghost use Rattle.cts_engine.specs.Vocabulary.{Problem, has_host, HasNoHost, AreUsedKinds, GivesUsedKinds, RefusesTable, IsHostedBy, TellsDelays, TellBoth, TellAll, IsCircuitRefusal, IsProblemRefusal};
 
 use crate::Refusal;
 use bench_reader::read_bench;
@@ -26,7 +26,7 @@ pub fn accept(alloc: Global, bench: &[u8], tech: &[u8], places: &[u8]) -> Result
     requires bench { length bench.now ≤ 16777216 }
     requires places { length places.now ≤ 16777216 }
     ensures ok { IfOk result (TellAll bench.now tech.now places.now) }
-    ensures cause { IfErr result (IsRefusal bench.now tech.now places.now) }
+    ensures cause { IfErr result (IsProblemRefusal bench.now tech.now places.now) }
     // Texts that tell a problem are accepted, and it is the only one; memory alone is free.
     ensures accepted { (problem : Problem) → TellAll bench.now tech.now places.now problem
         → (result ≡ Ok problem) ⊎ (result ≡ Err Refusal.NoMemory) }
@@ -44,7 +44,7 @@ fn problem_denoted(
     requires bench { length bench.now ≤ 16777216 }
     requires places { length places.now ≤ 16777216 }
     ensures ok { IfOk result (TellAll bench.now tech.now places.now) }
-    ensures cause { IfErr result (IsRefusal bench.now tech.now places.now) }
+    ensures cause { IfErr result (IsProblemRefusal bench.now tech.now places.now) }
 {
     let Denoted { circuit, tech } = accept_circuit(alloc, bench, tech)?;
     let places = read_places(

@@ -1,6 +1,6 @@
 -- What is asked for is answered with one status on the same contents, or refused with one, and not
 -- both.
-use Rattle.cts_program.proofs.Vocabulary.{ℕ, ◌≡◌, ◌≢◌, ◌<◌, ◌≤◌, ◌⊎◌, inl, inr, List, [], ◌∷◌, length, take, refl, ap, sym, ◌∙◌, subst, append-nil, arith, length-map, Reason, Command, Check, Demo, Form, form_of, Given, Failure, status_of, reason_failure_of, kinds_for, texts_for, judged_kinds, Tells, IsUnshown, RefusesTold, IsText, IsAnswer, IsRefusal, IsAccepted, IsStatusOf, FindsNoPeriod, subject_of, RefusesFirst, NamedFile, Request, request_of, Told, nothing, reported}
+use Rattle.cts_program.proofs.Vocabulary.{ℕ, ◌≡◌, ◌≢◌, ◌<◌, ◌≤◌, ◌⊎◌, inl, inr, List, [], ◌∷◌, length, take, refl, ap, sym, ◌∙◌, subst, append-nil, arith, length-map, Reason, Command, Check, Demo, Form, command_form, Given, Failure, status_of, reason_failure_of, kinds_for, texts_for, judged_kinds, Tells, IsUnshown, RefusesTold, IsText, IsAnswer, IsRefusal, IsAccepted, IsStatusOf, FindsNoPeriod, subject_of, RefusesFirst, NamedFile, Request, request_of, Told, nothing, reported}
 use Rattle.cert_check.specs.declared.verdict.Reason.TheVariants as reasons
 use Rattle.cert_check.proofs.JudgedLemmas.{exactly_shown}
 use Rattle.command_line.specs.declared.table.Form.TheVariants as forms
@@ -226,4 +226,4 @@ accepted_refusal command contents known failure agree within accepted refusal =
       length-map (request_of command).files (λ (file : NamedFile). file.0),
     )) within agree accepted
     refusal in
-    absurd (unshown_check (form_of command) told failure (λ same. cc same) unshown)
+    absurd (unshown_check (command_form command) told failure (λ same. cc same) unshown)

@@ -1,5 +1,5 @@
 -- Steps of a command, one after the other, and its answer at the end.
-use Rattle.cts_program.proofs.Vocabulary.{ℕ, ◌≡◌, ◌≢◌, inl, inr, List, ◌++◌, Option, Result, Ok, Err, IfOk, IfErr, IsErrOf, refl, ap, sym, ◌∙◌, subst, length-map, Circuit, Tech, Command, Form, form_of, Given, options_of, Answer, ending_status, Failure, FileKind, kinds_in, kinds_for, texts_for, Tells, JoinTooMany, RefusesTold, IsText, Tell, RefusesFirst, NamedFile, Request, files_of, request_of, Stops, refused, unread, wants_memory, OrMemory, IsStep, IsServed, AreRead, AreUnread, FailsCircuit, Told, nothing, TellsCircuit, TellsTech, IsTimedSo}
+use Rattle.cts_program.proofs.Vocabulary.{ℕ, ◌≡◌, ◌≢◌, inl, inr, List, ◌++◌, Option, Result, Ok, Err, IfOk, IfErr, IsErrOf, refl, ap, sym, ◌∙◌, subst, length-map, Circuit, Tech, Command, Form, command_form, Given, options_of, Answer, ending_status, Failure, FileKind, kinds_in, kinds_for, texts_for, Tells, JoinTooMany, RefusesTold, IsText, Tell, RefusesFirst, NamedFile, Request, files_of, request_of, Stops, refused, unread, wants_memory, OrMemory, IsStep, IsServed, AreRead, AreUnread, FailsCircuit, Told, nothing, TellsCircuit, TellsTech, IsTimedSo}
 use Rattle.cts_model.specs.Vocabulary.{JoinsMoreThan}
 use Rattle.command_line.specs.declared.table.Form.TheVariants as forms
 use Rattle.failure_lines.specs.declared.failure.Failure.TheVariants as failures
@@ -99,13 +99,13 @@ by_files : (form : Form) (given : List Given) (files : List NamedFile) → form 
 by_files forms.Demo given files other = absurd (other refl)
 by_files form given files other = record { kinds = refl; texts = λ contents. refl }
 
-module _ (command : Command) (by_name : form_of command ≢ forms.Demo) where
+module _ (command : Command) (by_name : command_form command ≢ forms.Demo) where
   abbrev asked : Request
   asked = request_of command
 
   by : IsByFiles asked
   unfolding request_of
-  by = by_files (form_of command) (options_of command) (files_of command) by_name
+  by = by_files (command_form command) (options_of command) (files_of command) by_name
 
   module _ {holds : List ℕ → Option (List ℕ)} where
     -- files that tell something tell it to the command

@@ -11,7 +11,7 @@ pub use Rattle.answer_texts.specs.MoveTexts.{AreWires, IsTreeWire, IsWireAt, IsW
 pub use Rattle.answer_texts.specs.declared.answer.Answer.{Answer}
 pub use Rattle.answer_texts.specs.declared.answer.Ending.{Ending}
 pub use Rattle.cert_check.specs.declared.verdict.Reason.{Reason}
-pub use Rattle.command_line.specs.CommandTable.{form_of}
+pub use Rattle.command_line.specs.CommandTable.{command_form}
 pub use Rattle.command_line.specs.Commands.{is_number_within, is_period, HasValidValues, Given, IsCommand, options_of, tables_of, IsSame}
 pub use Rattle.command_line.specs.declared.command.Command.{Command}
 pub use Rattle.command_line.specs.declared.command.Command.TheVariants.{Demo, Margin, Check, Zero, Corners, Embed, Period, Synth}
@@ -31,7 +31,7 @@ pub use Rattle.failure_lines.specs.declared.failure.Failure.{Failure}
 pub use Rattle.failure_lines.specs.declared.failure.Failure.TheVariants.{TooLong, Usage, Refused, WriteFault, ReadFault}
 pub use Rattle.failure_lines.specs.declared.file_kind.FileKind.{FileKind}
 pub use Rattle.failure_lines.specs.declared.file_kind.FileKind.TheVariants.{Bench, Corner, Report, Placement, Topology, Moves}
-pub use Rattle.move_session.specs.Moves.{AcceptsMoves, moves_in}
+pub use Rattle.move_session.specs.Moves.{moves_in}
 pub use Rattle.move_session.specs.declared.moves.Move.{Move}
 pub use Rattle.place_reader.specs.declared.fault.PlaceFault.{PlaceFault}
 pub use Rattle.report_text.specs.Values.{wire_line}

@@ -1,5 +1,5 @@
 -- The lines of wire of a session, one for the places as they are and one after each move.
-use Rattle.cts_program.proofs.Vocabulary.{◌≡◌, ℕ, ℤ, List, [], ◌∷◌, ◌++◌, length, map, refl, ap, sym, subst, ◌∙◌, All, map_push, Problem, line_of, text_of, length-sinks_of, Move, IsSessionOf, StandsAt, near_coordinate, wire_line, AreWires, IsTreeWire, IsWireAt, IsWiresText, moved_places, AppendsWire, IsNearMove, AcceptsMoves}
+use Rattle.cts_program.proofs.Vocabulary.{moves_in, Ok, ◌≡◌, ℕ, ℤ, List, [], ◌∷◌, ◌++◌, length, map, refl, ap, sym, subst, ◌∙◌, All, map_push, Problem, line_of, text_of, length-sinks_of, Move, IsSessionOf, StandsAt, near_coordinate, wire_line, AreWires, IsTreeWire, IsWireAt, IsWiresText, moved_places, AppendsWire, IsNearMove}
 use Rattle.cts_base.specs.declared.fraction.Fraction.{Fraction}
 use Rattle.cts_model.specs.declared.place.Point.{Point}
 use Rattle.cts_model.specs.declared.schedule.Schedule.{Schedule}
@@ -24,7 +24,7 @@ near_move problem move told = record {
 
 -- so are all
 pub near_moves : (problem : Problem) (bytes : List ℕ) (moves : List Move)
-    → AcceptsMoves bytes problem.circuit moves
+    → moves_in bytes problem.circuit ≡ Ok moves
     → All (IsNearMove (length problem.circuit.registers)) moves
 near_moves problem bytes moves accepts =
     each_told problem.circuit (IsNearMove (length problem.circuit.registers)) (near_move problem)

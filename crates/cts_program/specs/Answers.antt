@@ -8,7 +8,7 @@ use Rattle.cert_check.specs.declared.verdict.Verdict.TheVariants.{Not}
 use Rattle.cert_check.specs.Verdicts.{IsVerdict}
 use Rattle.command_line.specs.declared.table.Form.{Form}
 use Rattle.command_line.specs.declared.table.Form.TheVariants.{Zero, Period, Schedule, Synth, Check, Demo, Margin, Embed, Moves, Corners}
-use Rattle.command_line.specs.Commands.{Given, number_of}
+use Rattle.command_line.specs.Commands.{Given, numeral_value}
 use Rattle.failure_lines.specs.declared.failure.Failure.{Failure}
 use Rattle.failure_lines.specs.declared.failure.Failure.TheVariants.{Pairs}
 use Rattle.failure_lines.specs.declared.file_kind.FileKind.{FileKind}
@@ -36,7 +36,7 @@ abbrev pub value_given : List Given → (place : ℕ) → List ℕ
 value_given given place = (get_or given place ([], [])).1
 
 abbrev pub number_given : List Given → (place : ℕ) → ℕ
-number_given given place = number_of (value_given given place)
+number_given given place = numeral_value (value_given given place)
 
 -- the kinds of files
 abbrev pub kinds_in : List NamedFile → List FileKind

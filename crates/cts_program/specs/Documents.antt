@@ -1,6 +1,6 @@
 -- What a file tells after those before it, or why it is refused, and so for the files of a command:
 -- each is judged as soon as it is read.
-use Rattle.std.specs.Prelude.{◌≡◌, ◌≢◌, ◌==◌, ◌⊎◌, ℕ, List, [], ◌∷◌, ◌++◌, length, Some}
+use Rattle.std.specs.Prelude.{◌≡◌, ◌≢◌, ◌==◌, ◌⊎◌, ℕ, List, [], ◌∷◌, ◌++◌, length, Some, Ok, Err}
 use Rattle.cts_model.specs.declared.circuit.Circuit.{Circuit}
 use Rattle.cts_model.specs.declared.problem.Problem.{Problem}
 use Rattle.cts_model.specs.declared.tech.Tech.{Tech}
@@ -19,11 +19,11 @@ use Rattle.report_text.specs.declared.fault.ReportFault.TheVariants as report
 use Rattle.report_text.specs.ReportFaults.{HasFault}
 use Rattle.topology_file.specs.declared.fault.TopologyFault.{TopologyFault}
 use Rattle.topology_file.specs.declared.fault.TopologyFault.TheVariants as topology
-use Rattle.topology_file.specs.TopologyTexts.{AcceptsTopology, RefusesTopology}
+use Rattle.topology_file.specs.TopologyTexts.{topology_in}
 use Rattle.move_session.specs.declared.fault.MovesFault.{MovesFault}
 use Rattle.move_session.specs.declared.fault.MovesFault.TheVariants as moves
 use Rattle.move_session.specs.declared.moves.Move.{Move}
-use Rattle.move_session.specs.Moves.{AcceptsMoves, RefusesMoves}
+use Rattle.move_session.specs.Moves.{moves_in}
 use Rattle.cts_engine.specs.Accepted.{IsHostedBy, TellsDelays, HasFaultFor}
 use Rattle.failure_lines.specs.declared.failure.Failure.{Failure}
 use Rattle.failure_lines.specs.declared.failure.Failure.TheVariants as failures
@@ -56,9 +56,10 @@ Means kinds.Report (placed problem) bytes next =
     × Spells problem.circuit problem.tech bytes report
 Means kinds.Topology (placed problem) bytes next =
     (topology : trees.Topology) × (next ≡ joined problem topology)
-    × AcceptsTopology bytes (length problem.circuit.registers) topology
+    × (topology_in bytes (length problem.circuit.registers) ≡ Ok topology)
 Means kinds.Moves (placed problem) bytes next =
-    (moves : List Move) × (next ≡ moving problem moves) × AcceptsMoves bytes problem.circuit moves
+    (moves : List Move) × (next ≡ moving problem moves)
+    × (moves_in bytes problem.circuit ≡ Ok moves)
 Means (kinds.Corner number) (bare only techs) bytes next =
     (tech : Tech) × (next ≡ bare only (techs ++ tech ∷ []))
     × TellsDelays only.signals bytes tech × (DiffersFromFirst techs tech → ⊥)
@@ -80,10 +81,10 @@ Refuses kinds.Report (placed problem) bytes failure =
     × HasFault problem.circuit problem.tech bytes (Some fault)
 Refuses kinds.Topology (placed problem) bytes failure =
     (fault : TopologyFault) × (failure ≡ topology_failure_of fault) × (fault ≢ topology.NoMemory)
-    × RefusesTopology bytes (length problem.circuit.registers) fault
+    × (topology_in bytes (length problem.circuit.registers) ≡ Err fault)
 Refuses kinds.Moves (placed problem) bytes failure =
     (fault : MovesFault) × (failure ≡ moves_failure_of fault) × (fault ≢ moves.NoMemory)
-    × RefusesMoves bytes problem.circuit fault
+    × (moves_in bytes problem.circuit ≡ Err fault)
 Refuses (kinds.Corner number) (bare only techs) bytes failure =
     ((fault : TechFault) × (failure ≡ tech_failure_of (kinds.Corner number) fault)
     × HasFaultFor only.signals bytes fault)

@@ -6,7 +6,7 @@ use Rattle.failure_lines.specs.declared.file_kind.FileKind.TheVariants as kinds
 use Rattle.command_line.specs.declared.command.Command.{Command}
 use Rattle.command_line.specs.declared.command.Command.TheVariants.{Zero, Period, Schedule, Synth, Check, Demo, Margin, Embed, Moves, Corners}
 use Rattle.command_line.specs.declared.table.Form.{Form}
-use Rattle.command_line.specs.CommandTable.{form_of}
+use Rattle.command_line.specs.CommandTable.{command_form}
 use Rattle.command_line.specs.Commands.{Given, IsCommand, options_of, tables_of}
 
 -- a file that a command reads: its kind and its name
@@ -52,7 +52,7 @@ pub record Request : Type 0 where
 
 unfoldable pub request_of : Command → Request
 request_of command = record {
-  form = form_of command;
+  form = command_form command;
   given = options_of command;
   files = files_of command;
 }

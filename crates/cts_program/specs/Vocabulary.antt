@@ -12,7 +12,7 @@ pub use Rattle.answer_texts.specs.ScheduleTexts.{IsScheduleText}
 pub use Rattle.answer_texts.specs.SynthTexts.{IsSynthText, IsEmbedText, synthesis_lines, synthesis_status}
 pub use Rattle.answer_texts.specs.ZeroTexts.{IsZeroText}
 pub use Rattle.cert_check.specs.Verdicts.{IsVerdict}
-pub use Rattle.command_line.specs.Commands.{is_period, number_of, is_number_within, HasValidTables, HasValidValues}
+pub use Rattle.command_line.specs.Commands.{is_period, numeral_value, is_number_within, HasValidTables, HasValidValues}
 pub use Rattle.cts_base.specs.Fractions.{fraction_text}
 pub use Rattle.cts_engine.specs.SessionOutcomes.{IsGrid, IsSessionOf}
 pub use Rattle.cts_io.specs.Device.{Rose}

@@ -2,7 +2,7 @@
 //! tree is shown.
 
 ghost use Rattle.std.specs.Prelude.{◌≡◌, ◌≤◌, ◌<◌, ◌↔◌, ℕ, true, IsTrue, [], IfOk, IfErr};
-ghost use Rattle.cts_program.specs.Vocabulary.{JoinsMoreThan, IsOfSize, IsWithinBounds, IsShown, IsVerdict, Failure, BeginsLowest, IsOutcome, IsShownOutcome, ending_status, number_of, is_number_within, problem_kinds, IsAnswer, IsRefusal, IsDemoText, demo_texts, Tell, RefusesFirst, request_of, FailsCircuit, OrMemory, nothing, placed};
+ghost use Rattle.cts_program.specs.Vocabulary.{JoinsMoreThan, IsOfSize, IsWithinBounds, IsShown, IsVerdict, Failure, BeginsLowest, IsOutcome, IsShownOutcome, ending_status, numeral_value, is_number_within, problem_kinds, IsAnswer, IsRefusal, IsDemoText, demo_texts, Tell, RefusesFirst, request_of, FailsCircuit, OrMemory, nothing, placed};
 ghost use Rattle.command_line.specs.declared.command.Command.TheVariants as commands;
 
 use crate::reading::{DelayTable, Document, Netlist, Placement};
@@ -33,7 +33,7 @@ pub fn demo(alloc: Global, registers: &str, seed: &str) -> Result<Answer, Failur
 // The number that these digits stand for.
 fn number(digits: &str) -> u32
     requires { (least greatest : ℕ) × (is_number_within least greatest digits.now ≡ true) }
-    ensures { result ≡ number_of digits.now }
+    ensures { result ≡ numeral_value digits.now }
 {
     match digits.parse::<u32>() {
         Ok(number) => number,

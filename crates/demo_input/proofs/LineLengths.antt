@@ -2,14 +2,14 @@
 use Rattle.std.proofs.Common.{ℕ, zero, suc, ◌<◌, ◌≤◌, ◌+◌, ◌-◌, ◌*◌, ◌%◌, ◌==◌, Bool, true, false, cond, List, [], ◌∷◌, map, length, codes, decimal, arith, length-append}
 use Rattle.std.specs.List.{range_with_len}
 use Rattle.std.proofs.lemmas.Fmt.{length-decimal-le}
-use Rattle.demo_input.specs.Lines.{ended, lines_below, text_of}
-use Rattle.demo_input.specs.NetlistLines.{buffer_line, first_gate_line, mixing_line, register_line, second_gate_line}
+use Rattle.demo_input.specs.Lines.{ended, lines_for_each, ended_lines}
+use Rattle.demo_input.specs.NetlistLines.{buffer_line, first_gate_line, mixing_line, flip_flop_line, second_gate_line}
 use Rattle.demo_input.specs.PlacementLines.{place_line}
 
 -- the text of so many lines that are shorter than a bound
 pub text_within : (line_at : ℕ → List ℕ) (most start count : ℕ)
     → ((number : ℕ) → number < start + count → length (line_at number) < most)
-    → length (text_of (map line_at (range_with_len start count))) ≤ count * most
+    → length (ended_lines (map line_at (range_with_len start count))) ≤ count * most
 text_within line_at most start zero each = omega arith
 text_within line_at most start (suc count) each =
     let here = each start (omega arith) in
@@ -18,7 +18,7 @@ text_within line_at most start (suc count) each =
     omega (
       arith,
       length-append
-          (ended (line_at start)) (text_of (map line_at (range_with_len (start + 1) count))),
+          (ended (line_at start)) (ended_lines (map line_at (range_with_len (start + 1) count))),
       length-append (line_at start) (10 ∷ []),
     )
 
@@ -28,7 +28,7 @@ three_digits number small = length-decimal-le 3 number (omega arith) small (omeg
 
 -- the line of a register in the netlist
 register_line_within : (registers register : ℕ) → registers ≤ 1000 → register < registers
-    → length (register_line registers register) < 17
+    → length (flip_flop_line registers register) < 17
 register_line_within registers register few within =
     simp length-append (omega (
       arith,
@@ -83,14 +83,14 @@ place_line_within seed register small =
 
 -- all registers in the netlist
 pub registers_within : (registers : ℕ) → registers ≤ 1000
-    → length (text_of (lines_below (register_line registers) registers)) ≤ registers * 17
+    → length (ended_lines (lines_for_each (flip_flop_line registers) registers)) ≤ registers * 17
 registers_within registers few =
-    text_within (register_line registers) 17 0 registers
+    text_within (flip_flop_line registers) 17 0 registers
     (λ register within. register_line_within registers register few (omega arith))
 
 -- all first gates
 pub first_gates_within : (registers seed : ℕ) → registers ≤ 1000
-    → length (text_of (lines_below (first_gate_line registers seed) registers))
+    → length (ended_lines (lines_for_each (first_gate_line registers seed) registers))
     ≤ registers * 24
 first_gates_within registers seed few =
     text_within (first_gate_line registers seed) 24 0 registers
@@ -98,14 +98,14 @@ first_gates_within registers seed few =
 
 -- all second gates
 pub second_gates_within : (registers : ℕ) → registers ≤ 1000
-    → length (text_of (lines_below second_gate_line registers)) ≤ registers * 20
+    → length (ended_lines (lines_for_each second_gate_line registers)) ≤ registers * 20
 second_gates_within registers few =
     text_within second_gate_line 20 0 registers
     (λ register within. second_gate_line_within register (omega arith))
 
 -- all registers in the placement
 pub places_within : (registers seed : ℕ) → registers ≤ 1000
-    → length (text_of (lines_below (place_line seed) registers)) ≤ registers * 17
+    → length (ended_lines (lines_for_each (place_line seed) registers)) ≤ registers * 17
 places_within registers seed few =
     text_within (place_line seed) 17 0 registers
     (λ register within. place_line_within seed register (omega arith))

@@ -7,9 +7,9 @@ abbrev pub ended : List ℕ → List ℕ
 ended line = line ++ 10 ∷ []
 
 -- the bytes of some lines, each ended by a line feed
-abbrev pub text_of : List (List ℕ) → List ℕ
-text_of lines = flat_map ended lines
+abbrev pub ended_lines : List (List ℕ) → List ℕ
+ended_lines lines = flat_map ended lines
 
 -- a line for each number below that
-abbrev pub lines_below : (line_at : ℕ → List ℕ) → ℕ → List (List ℕ)
-lines_below line_at count = map line_at (range_with_len 0 count)
+abbrev pub lines_for_each : (line_at : ℕ → List ℕ) → ℕ → List (List ℕ)
+lines_for_each line_at count = map line_at (range_with_len 0 count)

@@ -1,7 +1,7 @@
 -- The delay table of a demonstration, in TOML, with delays in ticks. Its numbers are this project's
 -- choice.
 use Rattle.std.specs.Prelude.{ℕ, List, [], ◌∷◌, ◌++◌, codes}
-use Rattle.demo_input.specs.Lines.{text_of}
+use Rattle.demo_input.specs.Lines.{ended_lines}
 
 -- the wire's delay for a length unit, the source, and the delays and times of registers
 abbrev pub common_lines : List (List ℕ)
@@ -21,4 +21,4 @@ gate_lines =
 
 -- there is no floor for the period
 unfoldable pub table_text : List ℕ
-table_text = text_of (common_lines ++ gate_lines)
+table_text = ended_lines (common_lines ++ gate_lines)

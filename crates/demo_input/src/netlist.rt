@@ -1,8 +1,8 @@
 //! The lines of the netlist.
 
 ghost use Rattle.std.specs.Prelude.{◌≡◌, ◌≤◌, ◌<◌, ◌++◌, length, IfOk, OnOk};
-ghost use Rattle.demo_input.specs.Lines.{ended, lines_below, text_of};
-ghost use Rattle.demo_input.specs.NetlistLines.{buffer_line, first_gate_line, mixing_line, netlist_text, register_line, second_gate_line};
+ghost use Rattle.demo_input.specs.Lines.{ended, lines_for_each, ended_lines};
+ghost use Rattle.demo_input.specs.NetlistLines.{buffer_line, first_gate_line, mixing_line, netlist_text, flip_flop_line, second_gate_line};
 
 use crate::name::push_name;
 use cts_base::{Listed, NoMemory};
@@ -28,7 +28,7 @@ pub fn netlist(alloc: Global, registers: u32, seed: u32) -> Result<Listed<u8>, N
 fn push_registers(out: &mut Vec<u8>, registers: u32) -> Result<(), NoMemory>
     requires few { registers ≤ 1000 }
     ensures { OnOk result (out.new.items ≡ out.old.items
-        ++ text_of (lines_below (register_line registers) registers)) }
+        ++ ended_lines (lines_for_each (flip_flop_line registers) registers)) }
 {
     for register in 0..registers {
         push_register(out, registers, register)?;
@@ -41,7 +41,7 @@ fn push_register(out: &mut Vec<u8>, registers: u32, register: u32) -> Result<(),
     requires few { registers ≤ 1000 }
     requires within { register < registers }
     ensures { OnOk result (out.new.items
-        ≡ out.old.items ++ ended (register_line registers register)) }
+        ≡ out.old.items ++ ended (flip_flop_line registers register)) }
 {
     push_name(out, b"r", register)?;
     out.extend_from_slice(b" = DFF(")?;
@@ -55,7 +55,7 @@ fn push_first_gates(out: &mut Vec<u8>, registers: u32, seed: u32) -> Result<(), 
     requires few { registers ≤ 1000 }
     requires seed { seed < 1000 }
     ensures { OnOk result (out.new.items ≡ out.old.items
-        ++ text_of (lines_below (first_gate_line registers seed) registers)) }
+        ++ ended_lines (lines_for_each (first_gate_line registers seed) registers)) }
 {
     for register in 0..registers {
         push_first_gate(out, registers, seed, register)?;
@@ -88,7 +88,7 @@ fn push_first_gate(
 // Appends the line of each second gate.
 fn push_second_gates(out: &mut Vec<u8>, registers: u32) -> Result<(), NoMemory>
     ensures { OnOk result (out.new.items ≡ out.old.items
-        ++ text_of (lines_below second_gate_line registers)) }
+        ++ ended_lines (lines_for_each second_gate_line registers)) }
 {
     for register in 0..registers {
         push_second_gate(out, register)?;

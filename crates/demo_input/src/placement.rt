@@ -1,7 +1,7 @@
 //! The lines of the placement.
 
 ghost use Rattle.std.specs.Prelude.{◌≡◌, ◌≤◌, ◌<◌, ◌++◌, length, IfOk, OnOk};
-ghost use Rattle.demo_input.specs.Lines.{ended, lines_below, text_of};
+ghost use Rattle.demo_input.specs.Lines.{ended, lines_for_each, ended_lines};
 ghost use Rattle.demo_input.specs.PlacementLines.{place_line, placement_text};
 
 use crate::name::{push_name, push_number};
@@ -28,7 +28,7 @@ fn push_places(out: &mut Vec<u8>, registers: u32, seed: u32) -> Result<(), NoMem
     requires few { registers ≤ 1000 }
     requires seed { seed < 1000 }
     ensures { OnOk result (out.new.items ≡ out.old.items
-        ++ text_of (lines_below (place_line seed) registers)) }
+        ++ ended_lines (lines_for_each (place_line seed) registers)) }
 {
     for register in 0..registers {
         push_place(out, seed, register)?;

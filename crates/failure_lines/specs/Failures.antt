@@ -44,12 +44,12 @@ number_word TooFine = codes " 2"
 number_word TooLarge = codes " 3"
 
 -- a byte as it is shown: one that isn't printable is a question mark
-abbrev pub shown_byte : ℕ → ℕ
-shown_byte byte = if nat_le 33 byte && nat_le byte 126 then byte else 63
+abbrev pub printable_byte : ℕ → ℕ
+printable_byte byte = if nat_le 33 byte && nat_le byte 126 then byte else 63
 
 -- bytes as they are shown
-abbrev pub shown : List ℕ → List ℕ
-shown bytes = flat_map (λ byte. shown_byte byte ∷ []) bytes
+abbrev pub printable_bytes : List ℕ → List ℕ
+printable_bytes bytes = flat_map (λ byte. printable_byte byte ∷ []) bytes
 
 -- the words of a refusal, with the space before them
 abbrev pub words_text : Words → List ℕ
@@ -57,7 +57,7 @@ words_text Nothing = []
 words_text (Line line) = codes " line " ++ decimal line
 words_text (Limit line which) = codes " line " ++ decimal line ++ limit_word which
 words_text (Number line fault) = codes " line " ++ decimal line ++ number_word fault
-words_text (Key key) = codes " " ++ shown key
+words_text (Key key) = codes " " ++ printable_bytes key
 words_text (Gate gate) = codes " " ++ word_of gate
 words_text (Register name) = codes " " ++ name
 words_text (Loop names) = flat_map (λ name. 32 ∷ name) names

@@ -1,7 +1,7 @@
 //! The pieces of a line, which are written one after the other.
 
 ghost use Rattle.std.specs.Prelude.{◌≡◌, ℕ, List, ◌++◌, ◌∷◌, [], decimal};
-ghost use Rattle.failure_lines.specs.Vocabulary.{flat_map, shown_byte, Writes};
+ghost use Rattle.failure_lines.specs.Vocabulary.{flat_map, printable_byte, Writes};
 
 use cts_base::Name;
 use cts_io::{Failed, Sink, write_whole};
@@ -26,7 +26,7 @@ impl<'a> Piece for &'a [u8] {
 }
 
 impl Piece for u8 {
-    ghost text = { λ byte. shown_byte byte ∷ [] };
+    ghost text = { λ byte. printable_byte byte ∷ [] };
 
     fn write<E: Sink>(&self, err: &mut E) -> Result<(), Failed> {
         write_whole(err, &[shown_byte(*self)])
@@ -81,7 +81,7 @@ pub(crate) fn write_number<E: Sink>(
 }
 
 fn shown_byte(byte: u8) -> u8
-    ensures { result ≡ shown_byte byte }
+    ensures { result ≡ printable_byte byte }
 {
     match byte {
         b'!'..=b'~' => byte,

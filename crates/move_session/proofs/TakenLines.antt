@@ -1,5 +1,5 @@
 -- What is taken in from one more line.
-use Rattle.move_session.proofs.Vocabulary.{◌≡◌, ◌<◌, ◌+◌, ℕ, true, List, [], ◌∷◌, ◌++◌, length, Option, Some, None, Result, Ok, Err, sym, ap, ◌∙◌, arith, cond, nat_lt, cons_option, result_err, result_ok, length_push, filter_map-append, entries_in, has_words, words_in, MovesFault, Move, entry_fault, fault_of, move_of, moves_of, told_at}
+use Rattle.move_session.proofs.Vocabulary.{◌≡◌, ◌<◌, ◌+◌, ℕ, true, List, [], ◌∷◌, ◌++◌, length, Option, Some, None, Result, Ok, Err, sym, ap, ◌∙◌, arith, cond, nat_lt, cons_option, result_err, result_ok, length_push, filter_map-append, entries_in, has_words, words_in, MovesFault, Move, moves_entry_fault, moves_line_fault, move_of, moves_of, told_at}
 use Rattle.std.specs.Option.{option_or}
 use Rattle.std.proofs.lemmas.Bool.Decides.{nat_tests}
 use Rattle.cts_model.specs.Vocabulary.{number_of}
@@ -28,11 +28,11 @@ module _ (start old : Moving) (earlier : List (List ℕ)) (line : List ℕ) (nam
       sym (told ∙ ap (λ n. told_at number (move_of (number_of n) (name ∷ words))) has.names)
 
   -- it isn't faulty
-  pub move_flawless : length old.moves < 10000 → fault_of named earlier line ≡ None
+  pub move_flawless : length old.moves < 10000 → moves_line_fault named earlier line ≡ None
   move_flawless room =
       let few : nat_lt (length (entries_in earlier)) 10000 ≡ true =
       grind (arith, nat_tests, has.count, room) in
-      ap (entry_fault named (length earlier + 1) (length (entries_in earlier))) read
+      ap (moves_entry_fault named (length earlier + 1) (length (entries_in earlier))) read
       ∙ (λ i. option_or (result_err (told_at (sym number_is i) (move_of named (name ∷ words))))
       (cond (few i) None (Some (TooMany (length earlier + 1)))))
       ∙ ap (λ told. option_or (result_err told) None) line_told

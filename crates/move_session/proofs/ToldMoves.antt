@@ -1,5 +1,5 @@
 -- Moves that a text tells.
-use Rattle.move_session.proofs.Vocabulary.{◌≡◌, ◌<◌, ℕ, List, [], ◌∷◌, length, Option, Some, None, Result, Ok, Err, refl, ap, ◌∙◌, subst, ℤ, All, cons_option, result_ok, All-nil, All-cons, entries_of, MovesFault, Move, AcceptsMoves, fault_of, move_of, move_to, moves_in, moves_of, register_of}
+use Rattle.move_session.proofs.Vocabulary.{◌≡◌, ◌<◌, ℕ, List, [], ◌∷◌, length, Option, Some, None, Result, Ok, Err, refl, ap, ◌∙◌, subst, ℤ, All, cons_option, result_ok, All-nil, All-cons, entries_of, MovesFault, Move, moves_line_fault, move_of, move_to, moves_in, moves_of, register_of}
 use Rattle.cts_base.specs.Decimals.{micros_of}
 use Rattle.cts_base.specs.LineFormats.{first_fault, unless_faulty}
 use Rattle.cts_base.specs.declared.number.NumberFault.{NumberFault}
@@ -73,9 +73,10 @@ module _ (circuit : Circuit) where
       by_fault (Some fault) moves others same each = cc
 
       -- and of those of a text
-      pub each_told : (text : List ℕ) (moves : List Move) → AcceptsMoves text circuit moves
+      pub each_told : (text : List ℕ) (moves : List Move) → moves_in text circuit ≡ Ok moves
           → All Holds moves
       unfolding moves_in
       each_told text moves accepts =
-          by_fault (first_fault (fault_of number_of) text) (moves_of number_of (entries_of text))
+          by_fault (first_fault (moves_line_fault number_of) text) (moves_of number_of
+          (entries_of text))
           moves accepts (by_entries (entries_of text))

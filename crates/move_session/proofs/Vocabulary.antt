@@ -15,6 +15,6 @@ pub use Rattle.merge_up.specs.Merging.{HoldsMerge, IsMerged, IsSinkSet, HoldsSin
 pub use Rattle.merge_up.specs.Works.{WorkState, IsFit}
 pub use Rattle.move_session.specs.MergesAbove.{IsMergedBeside, IsStep, JoinsAt, is_above, merges_above}
 unfoldable pub use Rattle.move_session.specs.Moves.{moves_in}
-pub use Rattle.move_session.specs.Moves.{entry_fault, fault_of, move_of, moves_of, told_at, AcceptsMoves, move_to, register_of}
+pub use Rattle.move_session.specs.Moves.{moves_entry_fault, moves_line_fault, move_of, moves_of, told_at, move_to, register_of}
 pub use Rattle.move_session.specs.declared.fault.MovesFault.{MovesFault}
 pub use Rattle.move_session.specs.declared.moves.Move.{Move}

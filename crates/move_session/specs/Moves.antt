@@ -44,28 +44,20 @@ told_at number (Err fault) = Err (fault number)
 
 -- what is wrong with the line of this number, after so many that aren't blank: that it is the
 -- 10,001st is judged last
-abbrev pub entry_fault : (number_of : List ℕ → Option ℕ) → (number entries : ℕ)
+abbrev pub moves_entry_fault : (number_of : List ℕ → Option ℕ) → (number entries : ℕ)
     → (words : List (List ℕ)) → Option MovesFault
-entry_fault number_of number entries [] = None
-entry_fault number_of number entries (word ∷ words) =
+moves_entry_fault number_of number entries [] = None
+moves_entry_fault number_of number entries (word ∷ words) =
     option_or (result_err (told_at number (move_of number_of (word ∷ words))))
     (if nat_lt entries 10000 then None else Some (TooMany number))
 
 -- what is wrong with a line after the lines before it
-abbrev pub fault_of : (number_of : List ℕ → Option ℕ) → (earlier : List (List ℕ))
+abbrev pub moves_line_fault : (number_of : List ℕ → Option ℕ) → (earlier : List (List ℕ))
     → (line : List ℕ) → Option MovesFault
-fault_of number_of earlier line =
-    entry_fault number_of (length earlier + 1) (length (entries_in earlier)) (words_in line)
+moves_line_fault number_of earlier line =
+    moves_entry_fault number_of (length earlier + 1) (length (entries_in earlier)) (words_in line)
 
 -- the moves of a circuit's registers in a text, or its first fault
 unfoldable pub moves_in : (text : List ℕ) → Circuit → Result (List Move) MovesFault
-moves_in text circuit = unless_faulty (first_fault (fault_of (register_of circuit)) text)
+moves_in text circuit = unless_faulty (first_fault (moves_line_fault (register_of circuit)) text)
     (Ok (moves_of (register_of circuit) (entries_of text)))
-
--- the text is one of these moves
-abbrev pub AcceptsMoves : (text : List ℕ) → Circuit → List Move → Type 0
-AcceptsMoves text circuit moves = moves_in text circuit ≡ Ok moves
-
--- the text has this fault
-abbrev pub RefusesMoves : (text : List ℕ) → Circuit → MovesFault → Type 0
-RefusesMoves text circuit fault = moves_in text circuit ≡ Err fault

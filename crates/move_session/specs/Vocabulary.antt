@@ -5,5 +5,5 @@ pub use Rattle.merge_up.specs.Merging.{HoldsJoined, IsMerged}
 pub use Rattle.merge_up.specs.Works.{IsFit}
 pub use Rattle.name_set.specs.RegisterNames.{register_names}
 pub use Rattle.move_session.specs.MergesAbove.{IsMergedBeside, IsStep, merges_above}
-pub use Rattle.move_session.specs.Moves.{fault_of, move_of, told_at, moves_in}
+pub use Rattle.move_session.specs.Moves.{moves_line_fault, move_of, told_at, moves_in}
 pub use Rattle.move_session.specs.Sessions.{moved_sink}

@@ -1,5 +1,5 @@
 ghost use Rattle.std.specs.Prelude.{◌≡◌, ◌∷◌, [], IfOk};
-ghost use Rattle.move_session.specs.Vocabulary.{number_of, fault_of, move_of, told_at, register_names};
+ghost use Rattle.move_session.specs.Vocabulary.{number_of, moves_line_fault, move_of, told_at, register_names};
 ghost use Rattle.move_session.specs.declared.fault.MovesFault.TheVariants as fault;
 
 use crate::{Move, MovesFault};
@@ -57,7 +57,7 @@ impl<'a> LineFormat<'a> for Moving {
 
     ghost no_memory = { fault.NoMemory };
 
-    ghost fault_of = { λ start. fault_of (number_of start.names) };
+    ghost fault_of = { λ start. moves_line_fault (number_of start.names) };
 
     ghost has_read = { HasTaken };
 

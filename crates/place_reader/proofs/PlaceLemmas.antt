@@ -1,5 +1,5 @@
 -- The places that lines give, and what is kept of them.
-use Rattle.place_reader.proofs.Vocabulary.{◌≡◌, ℕ, ◌+◌, Bool, true, false, ◌||◌, cond, IsTrue, List, [], ◌∷◌, ◌++◌, length, Some, None, Result, Ok, Err, refl, sym, ap, ◌∙◌, subst, append_assoc, append-nil, lookup, option_map, option_or, option_to_list, result_ok, bytes_eq, or-false, list_any-append, bytes_eq-Decides, NumberFault, Point, point_of, Entry, Blank, Header, Stands, entry_after, entry_of_words, has_begun, has_words, words_in, entry_fault, fault_of, is_among, node_fault, place_by, place_of, places_after, AreSamePlaces, HasTaken, TakesLine, wanted_place, is_written}
+use Rattle.place_reader.proofs.Vocabulary.{◌≡◌, ℕ, ◌+◌, Bool, true, false, ◌||◌, cond, IsTrue, List, [], ◌∷◌, ◌++◌, length, Some, None, Result, Ok, Err, refl, sym, ap, ◌∙◌, subst, append_assoc, append-nil, lookup, option_map, option_or, option_to_list, result_ok, bytes_eq, or-false, list_any-append, bytes_eq-Decides, NumberFault, Point, point_of, Entry, Blank, Header, Stands, entry_after, entry_of_words, has_begun, has_words, words_in, place_entry_fault, place_line_fault, is_among, node_fault, place_by, placed_at, places_after, AreSamePlaces, HasTaken, TakesLine, wanted_place, is_written}
 use Rattle.place_reader.specs.declared.placing.Placing.{Placing}
 
 -- a look-up in a list and then in another
@@ -38,8 +38,8 @@ begun_push earlier line = list_any-append (λ one. has_words (words_in one)) ear
 module _ (wanted : List ℕ → Bool) where
   -- the place of a node that isn't wanted is of none that is
   wanted_alone : (entry : Entry) (name : List ℕ) → IsTrue (wanted name)
-      → place_of (wanted_place wanted entry) name
-      ≡ place_of (option_to_list (place_by (Some entry))) name
+      → placed_at (wanted_place wanted entry) name
+      ≡ placed_at (option_to_list (place_by (Some entry))) name
   wanted_alone Blank name wants = refl
   wanted_alone Header name wants = refl
   wanted_alone (Stands node) name wants = at (wanted node.name) refl (point_of node.x node.y)
@@ -53,9 +53,9 @@ module _ (wanted : List ℕ → Bool) where
           cc (both, wants, passed)
 
       at : (b : Bool) → wanted node.name ≡ b → (point : Result Point NumberFault)
-          → place_of
+          → placed_at
           (cond b (option_to_list (option_map (λ p. (node.name, p)) (result_ok point))) []) name
-          ≡ place_of (option_to_list (option_map (λ p. (node.name, p)) (result_ok point))) name
+          ≡ placed_at (option_to_list (option_map (λ p. (node.name, p)) (result_ok point))) name
       at true known point = refl
       at false passed (Err fault) = refl
       at false passed (Ok point) = by (bytes_eq name node.name) refl passed point
@@ -72,15 +72,17 @@ module _ (wanted : List ℕ → Bool) where
 
       -- and the same is wrong with a line
       same_fault : (number : ℕ) (entry : Entry)
-          → entry_fault wanted places number (Some entry)
-          ≡ entry_fault wanted others number (Some entry)
+          → place_entry_fault wanted places number (Some entry)
+          ≡ place_entry_fault wanted others number (Some entry)
       same_fault number Blank = refl
       same_fault number Header = refl
       same_fault number (Stands node) = at (wanted node.name) refl
         where
           at : (b : Bool) → wanted node.name ≡ b
-              → cond b (node_fault number (point_of node.x node.y) (place_of places node.name)) None
-              ≡ cond b (node_fault number (point_of node.x node.y) (place_of others node.name)) None
+              → cond b (node_fault number (point_of node.x node.y)
+              (placed_at places node.name)) None
+              ≡ cond b (node_fault number (point_of node.x node.y)
+              (placed_at others node.name)) None
           at true wants = ap (node_fault number (point_of node.x node.y)) (same node.name wants)
           at false passed = refl
 
@@ -93,13 +95,13 @@ module _ {start old : Placing} {earlier : List (List ℕ)} (line : List ℕ) (en
 
   -- so this is wrong with it
   pub fault_is : (number : ℕ) → number ≡ length earlier + 1
-      → entry_fault (is_among old.wanted) old.placed number (Some entry)
-      ≡ fault_of (is_among start.wanted) earlier line
+      → place_entry_fault (is_among old.wanted) old.placed number (Some entry)
+      ≡ place_line_fault (is_among start.wanted) earlier line
   fault_is number is =
-      ap (λ names. entry_fault (is_among names) old.placed number (Some entry)) has.wanted
+      ap (λ names. place_entry_fault (is_among names) old.placed number (Some entry)) has.wanted
       ∙ same_fault (is_among start.wanted) old.placed (places_after [] earlier) has.places number
       entry
-      ∙ (λ i. entry_fault (is_among start.wanted) (places_after [] earlier) (is i)
+      ∙ (λ i. place_entry_fault (is_among start.wanted) (places_after [] earlier) (is i)
       (sym entry_is i))
 
   -- and this is kept of it

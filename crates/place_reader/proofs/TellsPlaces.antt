@@ -1,12 +1,12 @@
 -- What a text that is a placement, and one that leaves a register without a place, say.
-use Rattle.place_reader.proofs.Vocabulary.{◌≡◌, ℕ, ◌+◌, ◌<◌, Bool, true, false, cond, List, [], ◌∷◌, ◌++◌, map, length, Option, Some, None, Result, Ok, Err, refl, ap, ◌∙◌, arith, option_or, result_map_both, length-map, first_fault, first_fault_after, unless_faulty, lines_of, NumberFault, Circuit, Point, point_of, Entry, Blank, Header, Stands, PlaceFault, NoPlace, AcceptsPlacement, RefusesPlacement, entry_fault, fault_of, is_among, node_fault, place_of, places_after, places_in, points_from, register_nodes, wanted_nodes, with_source}
+use Rattle.place_reader.proofs.Vocabulary.{◌≡◌, ℕ, ◌+◌, ◌<◌, Bool, true, false, cond, List, [], ◌∷◌, ◌++◌, map, length, Option, Some, None, Result, Ok, Err, refl, ap, ◌∙◌, arith, option_or, result_map_both, length-map, first_fault, first_fault_after, unless_faulty, lines_of, NumberFault, Circuit, Point, point_of, Entry, Blank, Header, Stands, PlaceFault, NoPlace, AcceptsPlacement, RefusesPlacement, place_entry_fault, place_line_fault, is_among, node_fault, placed_at, places_after, places_in, points_from, register_nodes, wanted_nodes, with_source}
 use Rattle.cts_model.specs.declared.place.Places.{Places}
 
 -- the lines give the places of a placement
 pub record GivePlaces (given : List (List ℕ × Point)) (circuit : Circuit) (source host : List ℕ)
     (places : Places) : Type 0 where
-  pub registers : map (place_of given) (register_nodes circuit host) ≡ map Some places.registers
-  pub at_source : place_of given source ≡ Some places.source
+  pub registers : map (placed_at given) (register_nodes circuit host) ≡ map Some places.registers
+  pub at_source : placed_at given source ≡ Some places.source
 
 -- points that are told are each there
 points_told : (number : ℕ) (places : List (Option Point)) (points : List Point)
@@ -51,12 +51,13 @@ unplaced_below number (Some first ∷ places) register told =
 module _ (register : ℕ) where
   -- no line is refused for a register
   not_of_entry : (wanted : List ℕ → Bool) (places : List (List ℕ × Point)) (number : ℕ)
-      (entry : Option Entry) → entry_fault wanted places number entry ≡ Some (NoPlace register) → ⊥
+      (entry : Option Entry) → place_entry_fault wanted places number entry ≡ Some
+      (NoPlace register) → ⊥
   not_of_entry wanted places number None found = cc
   not_of_entry wanted places number (Some Blank) found = cc
   not_of_entry wanted places number (Some Header) found = cc
   not_of_entry wanted places number (Some (Stands node)) found =
-      at (wanted node.name) (point_of node.x node.y) (place_of places node.name) found
+      at (wanted node.name) (point_of node.x node.y) (placed_at places node.name) found
     where
       at : (b : Bool) (point : Result Point NumberFault) (before : Option Point)
           → cond b (node_fault number point before) None ≡ Some (NoPlace register) → ⊥
@@ -66,16 +67,16 @@ module _ (register : ℕ) where
       at true (Ok point) (Some there) found = cc
 
   not_of_lines : (wanted : List ℕ → Bool) (earlier lines : List (List ℕ))
-      → first_fault_after (fault_of wanted) earlier lines ≡ Some (NoPlace register) → ⊥
+      → first_fault_after (place_line_fault wanted) earlier lines ≡ Some (NoPlace register) → ⊥
   not_of_lines wanted earlier [] found = cc
   not_of_lines wanted earlier (line ∷ later) found =
-      at (fault_of wanted earlier line) refl found
+      at (place_line_fault wanted earlier line) refl found
       (not_of_lines wanted (earlier ++ line ∷ []) later)
     where
-      at : (o : Option PlaceFault) → fault_of wanted earlier line ≡ o
-          → option_or o (first_fault_after (fault_of wanted) (earlier ++ line ∷ []) later)
+      at : (o : Option PlaceFault) → place_line_fault wanted earlier line ≡ o
+          → option_or o (first_fault_after (place_line_fault wanted) (earlier ++ line ∷ []) later)
           ≡ Some (NoPlace register)
-          → (first_fault_after (fault_of wanted) (earlier ++ line ∷ []) later
+          → (first_fault_after (place_line_fault wanted) (earlier ++ line ∷ []) later
           ≡ Some (NoPlace register) → ⊥) → ⊥
       at None known found rest = rest found
       at (Some fault) known found rest = not_of_entry wanted _ _ _ (known ∙ found)
@@ -97,11 +98,11 @@ module _ (text : List ℕ) (circuit : Circuit) (source host : List ℕ) where
       → GivePlaces given circuit source host places
   unfolding places_in
   accepted_gives places accepts =
-      at (first_fault (fault_of (is_among (wanted_nodes circuit source host))) text) accepts
+      at (first_fault (place_line_fault (is_among (wanted_nodes circuit source host))) text) accepts
     where
       by : (points : Result (List Point) PlaceFault) (there : Option Point)
-          → points_from 0 (map (place_of given) (register_nodes circuit host)) ≡ points
-          → place_of given source ≡ there → with_source points there ≡ Ok places
+          → points_from 0 (map (placed_at given) (register_nodes circuit host)) ≡ points
+          → placed_at given source ≡ there → with_source points there ≡ Ok places
           → GivePlaces given circuit source host places
       by (Err fault) there known here told = cc
       by (Ok points) None known here told = cc
@@ -115,8 +116,8 @@ module _ (text : List ℕ) (circuit : Circuit) (source host : List ℕ) where
 
       at : (o : Option PlaceFault)
           → unless_faulty o (with_source
-          (points_from 0 (map (place_of given) (register_nodes circuit host)))
-          (place_of given source)) ≡ Ok places → GivePlaces given circuit source host places
+          (points_from 0 (map (placed_at given) (register_nodes circuit host)))
+          (placed_at given source)) ≡ Ok places → GivePlaces given circuit source host places
       at (Some fault) told = cc
       at None told = by _ _ refl refl told
 
@@ -126,19 +127,21 @@ module _ (text : List ℕ) (circuit : Circuit) (source host : List ℕ) where
       → register < length circuit.registers
   unfolding places_in
   unplaced_within register refuses =
-      at (first_fault (fault_of (is_among (wanted_nodes circuit source host))) text) refl refuses
+      at (first_fault (place_line_fault (is_among
+      (wanted_nodes circuit source host))) text) refl refuses
     where
       at : (o : Option PlaceFault)
-          → first_fault (fault_of (is_among (wanted_nodes circuit source host))) text ≡ o
+          → first_fault (place_line_fault (is_among (wanted_nodes circuit source host))) text ≡ o
           → unless_faulty o (with_source
-          (points_from 0 (map (place_of given) (register_nodes circuit host)))
-          (place_of given source)) ≡ Err (NoPlace register) → register < length circuit.registers
+          (points_from 0 (map (placed_at given) (register_nodes circuit host)))
+          (placed_at given source)) ≡ Err (NoPlace register) → register < length circuit.registers
       at (Some fault) known told =
           let same : fault ≡ NoPlace register = cc told in
           absurd (not_of_lines register _ [] (lines_of text) (known ∙ ap Some same))
       at None known told =
-          let below = unplaced_below 0 (map (place_of given) (register_nodes circuit host)) register
-          (not_of_source register _ (place_of given source) told) in
+          let below = unplaced_below 0 (map (placed_at given)
+          (register_nodes circuit host)) register
+          (not_of_source register _ (placed_at given source) told) in
           let nodes : length (register_nodes circuit host) ≡ length circuit.registers =
           length-map circuit.registers _ in
-          omega (arith, below, length-map (register_nodes circuit host) (place_of given), nodes)
+          omega (arith, below, length-map (register_nodes circuit host) (placed_at given), nodes)

@@ -1,5 +1,5 @@
 -- What the places that are kept say of the whole text.
-use Rattle.place_reader.proofs.Vocabulary.{◌≡◌, ℕ, ◌+◌, ◌≤◌, true, ◌||◌, IsTrue, List, [], ◌∷◌, ◌++◌, map, drop, length, Option, Some, None, Result, Ok, Err, refl, sym, ap, ◌∙◌, append_assoc, append-nil, arith, suc, slice_get, result_map_both, bytes_eq, or-true, drop_all, slice_get_within, get_or_from_slice_get, bytes_eq-Decides, first_fault, lines_of, Circuit, Point, PlaceFault, NoPlace, AreSameNames, fault_of, is_among, place_of, places_after, places_in, points_from, register_nodes, wanted_nodes, with_source, AreSamePlaces}
+use Rattle.place_reader.proofs.Vocabulary.{◌≡◌, ℕ, ◌+◌, ◌≤◌, true, ◌||◌, IsTrue, List, [], ◌∷◌, ◌++◌, map, drop, length, Option, Some, None, Result, Ok, Err, refl, sym, ap, ◌∙◌, append_assoc, append-nil, arith, suc, slice_get, result_map_both, bytes_eq, or-true, drop_all, slice_get_within, get_or_from_slice_get, bytes_eq-Decides, first_fault, lines_of, Circuit, Point, PlaceFault, NoPlace, AreSameNames, place_line_fault, is_among, placed_at, places_after, places_in, points_from, register_nodes, wanted_nodes, with_source, AreSamePlaces}
 use Rattle.std.proofs.Math.Seq.{drop-cons}
 
 -- ---- registers, one after the other
@@ -90,36 +90,37 @@ last_among (first ∷ names) name =
 module _ (text : List ℕ) (circuit : Circuit) (source host : List ℕ) (names : List (List ℕ))
     (same : AreSameNames names (wanted_nodes circuit source host)) where
   -- the lines have the same first fault
-  fault_same : (found : Option PlaceFault) → first_fault (fault_of (is_among names)) text ≡ found
-      → first_fault (fault_of (is_among (wanted_nodes circuit source host))) text ≡ found
+  fault_same : (found : Option PlaceFault) → first_fault (place_line_fault (is_among names)) text
+      ≡ found
+      → first_fault (place_line_fault (is_among (wanted_nodes circuit source host))) text ≡ found
   fault_same found is =
       let wanted = wanted_nodes circuit source host in
-      let all : first_fault (fault_of (is_among names)) text
-      ≡ first_fault (fault_of (is_among wanted)) text =
-      λ i. first_fault (fault_of (λ name. same name i)) text in
+      let all : first_fault (place_line_fault (is_among names)) text
+      ≡ first_fault (place_line_fault (is_among wanted)) text =
+      λ i. first_fault (place_line_fault (λ name. same name i)) text in
       sym all ∙ is
 
   -- it is what the text tells
   pub line_refused : (fault : PlaceFault)
-      → first_fault (fault_of (is_among names)) text ≡ Some fault
+      → first_fault (place_line_fault (is_among names)) text ≡ Some fault
       → places_in text circuit source host ≡ Err fault
   unfolding places_in
   line_refused fault found = rw (fault_same (Some fault) found) refl
 
   -- where there is none the places that are kept tell the rest
   pub kept_told : (kept : List (List ℕ × Point))
-      → first_fault (fault_of (is_among names)) text ≡ None
+      → first_fault (place_line_fault (is_among names)) text ≡ None
       → AreSamePlaces (is_among names) kept (places_after [] (lines_of text))
       → places_in text circuit source host
-      ≡ with_source (points_from 0 (map (place_of kept) (register_nodes circuit host)))
-      (place_of kept source)
+      ≡ with_source (points_from 0 (map (placed_at kept) (register_nodes circuit host)))
+      (placed_at kept source)
   unfolding places_in
   kept_told kept flawless are =
       let places = places_after [] (lines_of text) in
       let by_name : (name : List ℕ) → IsTrue (is_among (wanted_nodes circuit source host) name)
-      → place_of places name ≡ place_of kept name =
+      → placed_at places name ≡ placed_at kept name =
       λ name among. sym (are name (same name ∙ among)) in
-      let registers = places_same (place_of places) (place_of kept) (register_nodes circuit host)
+      let registers = places_same (placed_at places) (placed_at kept) (register_nodes circuit host)
       (source ∷ []) by_name in
       let at_source = by_name source (last_among (register_nodes circuit host) source) in
       rw (fault_same None flawless)

@@ -20,7 +20,7 @@ pub use Rattle.cts_model.specs.declared.place.Point.{Point}
 pub use Rattle.cts_model.specs.Vocabulary.{point_of, Entry, Blank, Header, Stands, entry_after, entry_of_words, has_begun, has_words, words_in}
 pub use Rattle.place_reader.specs.Names.{AreSameNames}
 unfoldable pub use Rattle.place_reader.specs.Placements.{places_in}
-pub use Rattle.place_reader.specs.Placements.{is_among, entry_fault, fault_of, node_fault, place_by, place_of, places_after, AcceptsPlacement, RefusesPlacement, points_from, register_nodes, wanted_nodes, with_source, node_name}
+pub use Rattle.place_reader.specs.Placements.{is_among, place_entry_fault, place_line_fault, node_fault, place_by, placed_at, places_after, AcceptsPlacement, RefusesPlacement, points_from, register_nodes, wanted_nodes, with_source, node_name}
 pub use Rattle.place_reader.specs.Taken.{AreSamePlaces, HasTaken, TakesLine, wanted_place}
 pub use Rattle.place_reader.specs.View.{is_written, said_by}
 pub use Rattle.place_reader.specs.declared.fault.PlaceFault.{PlaceFault}

@@ -49,8 +49,8 @@ places_after earlier (line ∷ later) =
     ++ places_after (earlier ++ line ∷ []) later
 
 -- where the node of a name stands by these: the first of the name
-abbrev pub place_of : List (List ℕ × Point) → List ℕ → Option Point
-place_of places name = lookup (bytes_eq name) places
+abbrev pub placed_at : List (List ℕ × Point) → List ℕ → Option Point
+placed_at places name = lookup (bytes_eq name) places
 
 -- what is wrong with the line of a wanted node, if anything is: its numbers are judged first, and
 -- then whether the node has a place
@@ -61,20 +61,21 @@ node_fault number (Ok point) None = None
 node_fault number (Ok point) (Some before) = Some (PlaceTwice number)
 
 -- what is wrong with the line of this number where these places are given before it
-abbrev pub entry_fault : (wanted : List ℕ → Bool) → List (List ℕ × Point) → (number : ℕ)
+abbrev pub place_entry_fault : (wanted : List ℕ → Bool) → List (List ℕ × Point) → (number : ℕ)
     → Option Entry → Option PlaceFault
-entry_fault wanted places number None = Some (BadLine number)
-entry_fault wanted places number (Some Blank) = None
-entry_fault wanted places number (Some Header) = None
-entry_fault wanted places number (Some (Stands node)) =
+place_entry_fault wanted places number None = Some (BadLine number)
+place_entry_fault wanted places number (Some Blank) = None
+place_entry_fault wanted places number (Some Header) = None
+place_entry_fault wanted places number (Some (Stands node)) =
     if wanted node.name
-    then node_fault number (point_of node.x node.y) (place_of places node.name) else None
+    then node_fault number (point_of node.x node.y) (placed_at places node.name) else None
 
 -- what is wrong with a line after the lines before it, if anything is
-abbrev pub fault_of : (wanted : List ℕ → Bool) → (earlier : List (List ℕ)) → List ℕ
+abbrev pub place_line_fault : (wanted : List ℕ → Bool) → (earlier : List (List ℕ)) → List ℕ
     → Option PlaceFault
-fault_of wanted earlier line =
-    entry_fault wanted (places_after [] earlier) (length earlier + 1) (entry_after earlier line)
+place_line_fault wanted earlier line =
+    place_entry_fault wanted (places_after [] earlier) (length earlier + 1)
+    (entry_after earlier line)
 
 -- the points of registers from this number on, or the first that has none
 abbrev pub points_from : (number : ℕ) → List (Option Point) → Result (List Point) PlaceFault
@@ -95,9 +96,10 @@ unfoldable pub places_in : (text : List ℕ) → Circuit → (source host : List
     → Result Places PlaceFault
 places_in text circuit source host =
     let places = places_after [] (lines_of text) in
-    unless_faulty (first_fault (fault_of (is_among (wanted_nodes circuit source host))) text)
-    (with_source (points_from 0 (map (place_of places) (register_nodes circuit host)))
-    (place_of places source))
+    unless_faulty (first_fault (place_line_fault (is_among
+    (wanted_nodes circuit source host))) text)
+    (with_source (points_from 0 (map (placed_at places) (register_nodes circuit host)))
+    (placed_at places source))
 
 -- the text is a placement of the circuit's registers and of the source, and tells these places
 abbrev pub AcceptsPlacement : (text : List ℕ) → Circuit → (source host : List ℕ) → Places → Type 0

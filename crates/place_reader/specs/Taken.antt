@@ -5,13 +5,13 @@ use Rattle.cts_model.specs.declared.place.Point.{Point}
 use Rattle.cts_model.specs.Vocabulary.{Entry, Blank, Header, Stands, has_begun}
 use Rattle.place_reader.specs.declared.placing.Placing.{Placing}
 use Rattle.place_reader.specs.View.{is_written}
-use Rattle.place_reader.specs.Placements.{entry_fault, is_among, place_by, place_of, places_after}
+use Rattle.place_reader.specs.Placements.{place_entry_fault, is_among, place_by, placed_at, places_after}
 
 -- the wanted nodes have the same places
 abbrev pub AreSamePlaces : (wanted : List ℕ → Bool) → (places others : List (List ℕ × Point))
     → Type 0
 AreSamePlaces wanted places others =
-    (name : List ℕ) → IsTrue (wanted name) → place_of places name ≡ place_of others name
+    (name : List ℕ) → IsTrue (wanted name) → placed_at places name ≡ placed_at others name
 
 -- this is what the start has become by the lines: of the places those of the wanted nodes are kept
 pub record HasTaken (start placing : Placing) (lines : List (List ℕ)) : Type 0 where
@@ -28,6 +28,6 @@ wanted_place wanted (Stands node) =
 
 -- nothing is wrong with the line of this number, and it is taken in
 pub record TakesLine (old new : Placing) (number : ℕ) (entry : Entry) : Type 0 where
-  pub flawless : entry_fault (is_among old.wanted) old.placed number (Some entry) ≡ None
+  pub flawless : place_entry_fault (is_among old.wanted) old.placed number (Some entry) ≡ None
   pub begun : new.begun ≡ (old.begun || is_written entry)
   pub placed : new.placed ≡ old.placed ++ wanted_place (is_among old.wanted) entry

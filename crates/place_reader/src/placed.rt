@@ -1,5 +1,5 @@
 ghost use Rattle.std.specs.Prelude.{◌≡◌, List, ℕ, [], ◌∷◌, ◌++◌, map, None, OnOk};
-ghost use Rattle.place_reader.specs.Vocabulary.{Point, place_of};
+ghost use Rattle.place_reader.specs.Vocabulary.{Point, placed_at};
 
 use cts_base::NoMemory;
 use cts_model::Point;
@@ -33,14 +33,14 @@ impl Placed {
 
     /// Where a node stands.
     pub(crate) fn place_of(&self, name: &[u8]) -> Option<Point>
-        ensures { result ≡ place_of self.now name.now }
+        ensures { result ≡ placed_at self.now name.now }
     {
         self.points.get(name).copied()
     }
 
     /// Places a node that has no place.
     pub(crate) fn put(&mut self, name: &[u8], point: Point) -> Result<(), NoMemory>
-        requires { place_of self.old name.now ≡ None }
+        requires { placed_at self.old name.now ≡ None }
         ensures { OnOk result (self.new ≡ self.old ++ (name.now, point) ∷ []) }
     {
         let key = Vec::from_slice(self.alloc, name)?;

@@ -1,5 +1,5 @@
 ghost use Rattle.std.specs.Prelude.{◌≡◌, [], OnOk, IfOk, IfErr};
-ghost use Rattle.place_reader.specs.Vocabulary.{IsFaultOf, AreSameNames, entry_fault, fault_of, is_among, wanted_nodes, node_said, said_by};
+ghost use Rattle.place_reader.specs.Vocabulary.{IsFaultOf, AreSameNames, place_entry_fault, place_line_fault, is_among, wanted_nodes, node_said, said_by};
 ghost use Rattle.place_reader.specs.declared.fault.PlaceFault.TheVariants as fault;
 ghost use Rattle.cts_model.specs.placement.PlaceLines as format;
 
@@ -27,7 +27,7 @@ impl<'a> LineFormat<'a> for Placing {
 
     ghost no_memory = { fault.NoMemory };
 
-    ghost fault_of = { λ start. fault_of (is_among start.wanted) };
+    ghost fault_of = { λ start. place_line_fault (is_among start.wanted) };
 
     ghost has_read = { HasTaken };
 
@@ -65,7 +65,7 @@ impl Placing {
     fn take(&mut self, number: u32, entry: Entry) -> Result<(), PlaceFault>
         ensures wanted { self.new.wanted ≡ self.old.wanted }
         ensures taken { OnOk result (TakesLine self.old self.new number (said_by entry.entry)) }
-        ensures faulty { IfErr result (IsFaultOf fault.NoMemory (entry_fault
+        ensures faulty { IfErr result (IsFaultOf fault.NoMemory (place_entry_fault
             (is_among self.old.wanted) self.old.placed number (Some (said_by entry.entry)))) }
     {
         match entry {
@@ -83,7 +83,7 @@ impl Placing {
         ensures wanted { self.new.wanted ≡ self.old.wanted }
         ensures taken { OnOk result
             (TakesLine self.old self.new number (format.Stands (node_said node.entry))) }
-        ensures faulty { IfErr result (IsFaultOf fault.NoMemory (entry_fault
+        ensures faulty { IfErr result (IsFaultOf fault.NoMemory (place_entry_fault
             (is_among self.old.wanted) self.old.placed number
             (Some (format.Stands (node_said node.entry))))) }
     {

@@ -1,5 +1,5 @@
 ghost use Rattle.std.specs.Prelude.{◌≡◌, ◌≤◌, ◌↔◌, [], length, map};
-ghost use Rattle.place_reader.specs.Vocabulary.{IsToldBy, HasNoHost, place_of, places_in, points_from, register_nodes};
+ghost use Rattle.place_reader.specs.Vocabulary.{IsToldBy, HasNoHost, placed_at, places_in, points_from, register_nodes};
 
 use crate::PlaceFault;
 use crate::node_names::register_node;
@@ -44,7 +44,7 @@ fn register_places(
     placed: &Placed,
 ) -> Result<Listed<Point>, PlaceFault>
     ensures { IsToldBy PlaceFault.NoMemory
-        (points_from 0 (map (place_of placed.now) (register_nodes circuit.now host.now))) result }
+        (points_from 0 (map (placed_at placed.now) (register_nodes circuit.now host.now))) result }
 {
     let mut points = Listed::new(alloc);
     for register in 0..circuit.registers.len() {

@@ -1,5 +1,5 @@
 -- A report that is put together from its sections: how large its numbers are, and its lines.
-use Rattle.report_text.proofs.Vocabulary.{◌≡◌, ◌<◌, ◌≤◌, ◌-◌, ◌*◌, ◌^◌, ℕ, List, All, Option, Some, None, length, map, refl, sym, ap, arith, ◌+◌, ℤ, pos, neg_ℤ, to_z, of_z, [], ◌∷◌, ◌++◌, get_or, codes, ap₂, ◌∙◌, subst, append_assoc, drop, append-nil, slice_get, All-map, All-append, All-cons, All-nil, All-push, ints, drop_at, get_or-append-add, get_or-map, get_or-take, get_or_append_left, get_or_push, length-append, length-map, length-take, length_push, take_at, get_or_from_slice_get, slice_get-get_or, quotient_text, Circuit, Constraint, PeriodShow, Cycle, Floor, Version, Tech, IsBelow, IsPointBelow, HasSmallWeight, HasSmallWeights, IsBetweenRegisters, ShowsPeriodAmong, count_in, cycle_length, HasTimingBounds, HasTreeBounds, IsMergeShow, IsOfSize, IsSmallWire, IsSourceShow, IsWithinBounds, ShowsAmong, Spells, lead_line, lines_below, merge_line_at, no_wire, node_line_at, origin, period_show_lines, register_line_at, report_lines, show_words, source_line, timing_lines, tree_lines, version_line, Words, line_for, count_line, period_line, register_line, text_of, IsSmallPeriod, arrival_of, grid_of, scheduled_length, Report, Root, Wire, root_of, source_of, AreSmallSlacks, Parts, timed_line, begin_of, denoted_lines, places_in, reaches_in, report_denoted, shows_in, sink_reach, lines_after, IsSmallCount, shown_line, HasParts, scale_in, DenotesConstraint, DenotesLead, SaysMerge, SaysNode, SaysSource, merged_line, placed_line, sourced_line, DenotesTimed, Timed, MergeLine, NodeLine, lines_of, Scale, w128, unwrap_or}
+use Rattle.report_text.proofs.Vocabulary.{◌≡◌, ◌<◌, ◌≤◌, ◌-◌, ◌*◌, ◌^◌, ℕ, List, All, Option, Some, None, length, map, refl, sym, ap, arith, ◌+◌, ℤ, pos, neg_ℤ, to_z, of_z, [], ◌∷◌, ◌++◌, get_or, codes, ap₂, ◌∙◌, subst, append_assoc, drop, append-nil, slice_get, All-map, All-append, All-cons, All-nil, All-push, ints, drop_at, get_or-append-add, get_or-map, get_or-take, get_or_append_left, get_or_push, length-append, length-map, length-take, length_push, take_at, get_or_from_slice_get, slice_get-get_or, quotient_text, Circuit, Constraint, PeriodShow, Cycle, Floor, Version, Tech, IsBelow, IsPointBelow, HasSmallWeight, HasSmallWeights, IsBetweenRegisters, ShowsPeriodAmong, count_in, cycle_length, HasTimingBounds, HasTreeBounds, IsMergeShow, IsOfSize, IsSmallWire, IsSourceShow, IsWithinBounds, ShowsAmong, Spells, lead_line, lines_below, merge_line_at, no_wire, node_line_at, origin, period_show_lines, register_line_at, report_lines, show_words, source_line, timing_lines, tree_lines, version_line, Words, line_for, count_line, period_line, register_line, text_of, IsSmallPeriod, arrival_of, grid_of, scheduled_length, Report, Root, Wire, root_of, source_of, AreSmallSlacks, Parts, timed_line, begin_of, denoted_lines, places_in, reaches_in, report_denoted, shows_in, sink_reach, lines_after, IsSmallCount, period_shown_line, HasParts, scale_in, DenotesConstraint, DenotesLead, SaysMerge, SaysNode, SaysSource, merged_line, placed_line, sourced_line, DenotesTimed, Timed, MergeLine, NodeLine, lines_of, Scale, w128, unwrap_or}
 use Rattle.std.specs.Prelude.{unsigned_abs}
 use Rattle.cts_model.specs.declared.schedule.Slack.{Slack}
 use Rattle.cts_model.proofs.GridLemmas.{scheduled_size}
@@ -431,15 +431,15 @@ module _ {circuit : Circuit} {tech : Tech} {text : List ℕ} {parts : Parts}
       let prefix = read_more heading _ _ _ has.shown.lines in
       let all = read_more prefix _ _ _ (body_read has.body) in
       let first : version_line parts.heading.version ∷ period_line parts.heading.period
-      ∷ shown_line parts.heading.count ∷ drop 1 shown
+      ∷ period_shown_line parts.heading.count ∷ drop 1 shown
       ≡ version_line parts.heading.version ∷ period_line parts.heading.period ∷ shown =
       ap (λ lines. version_line parts.heading.version ∷ period_line parts.heading.period ∷ lines)
       (sym has.shown.first) in
       all.text ∙ ap (λ bytes. text_of ((version_line parts.heading.version
-      ∷ period_line parts.heading.period ∷ shown_line parts.heading.count ∷ drop 1 shown)
+      ∷ period_line parts.heading.period ∷ period_shown_line parts.heading.count ∷ drop 1 shown)
       ++ body_lines has.body) ++ bytes) has.ended
       ∙ append-nil (text_of ((version_line parts.heading.version
-      ∷ period_line parts.heading.period ∷ shown_line parts.heading.count ∷ drop 1 shown)
+      ∷ period_line parts.heading.period ∷ period_shown_line parts.heading.count ∷ drop 1 shown)
       ++ body_lines has.body)) ∙ ap₂ (λ lines more. text_of (lines ++ more)) first after_denoted
 
   -- so it spells the report that is put together from them

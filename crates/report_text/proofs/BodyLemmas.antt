@@ -1,12 +1,12 @@
 -- The first lines of a report, what shows its period, and the sections after it.
-use Rattle.report_text.proofs.Vocabulary.{period_line, IsSmallPeriod, ◌≡◌, ℕ, Option, Some, List, [], ◌∷◌, codes, map, refl, ap, ◌∙◌, subst, arith, append_assoc, ◌≤◌, ◌+◌, ◌-◌, ◌*◌, ◌++◌, append-nil, range_with_len, Circuit, Constraint, Cycle, Version, First, Second, Words, count_line, line_for, Lead, ReportFault, Form, Scale, Fraction, HasHeading, HasShown, IsSmallCount, HasPathed, HasRows, Counted, IsFlawless, DenotesConstraint, DenotesLead, Left, Reads, ReadsLine, Stops, DenotesLine, DenotesTimed, Timed, HasBody, forms_after, HasFirstFault, version_line, shown_line}
+use Rattle.report_text.proofs.Vocabulary.{period_line, IsSmallPeriod, ◌≡◌, ℕ, Option, Some, List, [], ◌∷◌, codes, map, refl, ap, ◌∙◌, subst, arith, append_assoc, ◌≤◌, ◌+◌, ◌-◌, ◌*◌, ◌++◌, append-nil, range_with_len, Circuit, Constraint, Cycle, Version, First, Second, Words, count_line, line_for, Lead, ReportFault, LineForm, Scale, Fraction, HasHeading, HasShown, IsSmallCount, HasPathed, HasRows, Counted, IsFlawless, DenotesConstraint, DenotesLead, Left, Reads, ReadsLine, Stops, DenotesLine, DenotesTimed, Timed, HasBody, forms_after, HasFirstFault, version_line, period_shown_line}
 use Rattle.report_text.specs.LineForms as form
 use Rattle.report_text.specs.declared.sections.Body.{Body}
 use Rattle.report_text.proofs.RowLemmas.{one_form, rows_number, plain_lines, rows_all, rows_lines, counted_number, counted_read}
 use Rattle.report_text.proofs.WalkLemmas.{read_more, stop_after, stop_before}
 
 -- a line that is read by another scale
-pub read_as : (circuit : Circuit) (scale other : Scale) (form : Form) (words line : Words)
+pub read_as : (circuit : Circuit) (scale other : Scale) (form : LineForm) (words line : Words)
     (old new : Left) → ReadsLine circuit scale form words old new
     → IsFlawless circuit other form words → words ≡ line
     → Reads circuit other (form ∷ []) (line ∷ []) old new
@@ -20,7 +20,7 @@ pub heading_read : (circuit : Circuit) (scale : Scale)
     → DenotesLine circuit scale form.Period
     (λ words period. (words ≡ period_line period) × IsSmallPeriod period) first second period
     → DenotesLine circuit scale form.Show
-    (λ words count. (words ≡ shown_line count) × IsSmallCount count) second new count →
+    (λ words count. (words ≡ period_shown_line count) × IsSmallCount count) second new count →
     HasHeading circuit old new
     (record { version = version; period = period; count = count })
 heading_read circuit scale old first second new version period count is_version is_period is_show =
@@ -68,15 +68,15 @@ pub pathed_shown : {circuit : Circuit} {scale : Scale} {count : ℕ} {old new : 
 pathed_shown {circuit} {scale} {count} {old} {new} pathed small has = search arith
 
 -- the forms of three sections, after how many lines each has
-abbrev pub register_forms : ℕ → List Form
+abbrev pub register_forms : ℕ → List LineForm
 register_forms count = form.Count (codes "registers") count ∷ map form.Register
     (range_with_len 0 count)
 
-abbrev pub merge_forms : ℕ → List Form
+abbrev pub merge_forms : ℕ → List LineForm
 merge_forms count = form.Count (codes "merges") (count - 1)
     ∷ map form.Merge (range_with_len count (count - 1))
 
-abbrev pub node_forms : ℕ → List Form
+abbrev pub node_forms : ℕ → List LineForm
 node_forms count = form.Count (codes "nodes") (2 * count - 1)
     ∷ map form.Node (range_with_len 0 (2 * count - 1))
 
@@ -87,7 +87,7 @@ sections_apart a b c d e = simp append_assoc
 
 -- a fault by forms that stand among all, after lines that are read
 pub stops_within : {circuit : Circuit} {scale : Scale} {lines : List Words} {old between : Left}
-    (all a b more : List Form) → (a ++ b) ++ more ≡ all → (fault : ReportFault)
+    (all a b more : List LineForm) → (a ++ b) ++ more ≡ all → (fault : ReportFault)
     → Reads circuit scale a lines old between → Stops circuit scale b between fault
     → Stops circuit scale all old fault
 stops_within {circuit} {scale} {lines} {old} {between} all a b more same fault read stops =

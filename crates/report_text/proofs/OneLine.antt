@@ -1,5 +1,5 @@
 -- Lines are determined by their bytes: no word has a space or a line feed, or any byte below them.
-use Rattle.report_text.proofs.Vocabulary.{◌≡◌, ◌<◌, ◌==◌, false, ℕ, List, [], ◌∷◌, ◌++◌, All, map, refl, ap, ap₂, ◌∙◌, append_assoc, ne_eqb, arith, same_from_push, All-from_recursion, slice_split_none, slice_split_at, AllByRecursion, join_with_byte, slice_split, Words, text_of, is_line_feed, words_of}
+use Rattle.report_text.proofs.Vocabulary.{◌≡◌, ◌<◌, ◌==◌, false, ℕ, List, [], ◌∷◌, ◌++◌, All, map, refl, ap, ap₂, ◌∙◌, append_assoc, ne_eqb, arith, same_from_push, All-from_recursion, slice_split_none, slice_split_at, AllByRecursion, join_with_byte, slice_split, Words, text_of, is_line_feed, spaced_words}
 
 -- each byte is above the space
 abbrev pub IsWord : List ℕ → Type 0
@@ -41,7 +41,7 @@ words_lack (word ∷ next ∷ words) is =
     search (arith, lacks_both, word_lacks, words_lack (next ∷ words) is.1)
 
 -- and are cut at the spaces
-pub words_cut : (words : Words) → IsLine words → words_of (join_with_byte 32 words) ≡ words
+pub words_cut : (words : Words) → IsLine words → spaced_words (join_with_byte 32 words) ≡ words
 words_cut [] is = absurd is
 words_cut (word ∷ []) is = search (arith, slice_split_none, lacks_each, word_lacks)
 words_cut (word ∷ next ∷ words) is =
@@ -51,12 +51,12 @@ words_cut (word ∷ next ∷ words) is =
 
 -- a text is cut at the line feeds, and its lines at the spaces
 pub lines_cut : (lines : List Words) → AllByRecursion IsLine lines
-    → map words_of (slice_split is_line_feed (text_of lines)) ≡ lines ++ ([] ∷ []) ∷ []
+    → map spaced_words (slice_split is_line_feed (text_of lines)) ≡ lines ++ ([] ∷ []) ∷ []
 lines_cut [] are = refl
 lines_cut (words ∷ lines) are =
     let bytes : List ℕ = join_with_byte 32 words in
-    ap (λ text. map words_of (slice_split is_line_feed text)) (append_assoc bytes (10 ∷ [])
-    (text_of lines)) ∙ ap (map words_of) (slice_split_at is_line_feed bytes 10 (text_of lines)
+    ap (λ text. map spaced_words (slice_split is_line_feed text)) (append_assoc bytes (10 ∷ [])
+    (text_of lines)) ∙ ap (map spaced_words) (slice_split_at is_line_feed bytes 10 (text_of lines)
     (lacks_each 10 _ (words_lack words are.0)) refl) ∙ ap₂ (λ w ws. w ∷ ws) (words_cut _ are.0)
     (lines_cut lines are.1)
 

@@ -1,5 +1,5 @@
 -- What the first lines of a text tell of the lines after them, and where its first fault is.
-use Rattle.report_text.proofs.Vocabulary.{◌≡◌, ◌≢◌, ◌≤◌, ◌^◌, ℕ, zero, suc, pos, Option, Some, None, List, [], ◌∷◌, ◌++◌, map, length, get_or, codes, if◌then◌else◌, refl, sym, ap, subst, ◌∙◌, append-nil, arith, ℤ, negsuc, ◌≤ℤ◌, Bool, true, false, cond, ne_eqb, slice_split, after_first, list_any, bytes_eq, length-replicate, Decides-int_eq, ints, signed_decimal, int_eq, digits_value, Circuit, Version, First, Second, Tech, Words, period_line, version_line, IsSmallPeriod, ReportFault, NoMemory, Scale, Heading, cycle_forms, forms_after, forms_of, HasHeading, HasShown, IsSmallCount, shown_line, scale_in, whole, HasFault, HasFirstFault, cycle_denoted, den_denoted, is_line_feed, scale_denoted, version_denoted, word_at, words_of, Left, Stops, Fraction, IsBelow, fraction_text, is_slash, HasNoSlash, whole_no_slash, unwrap_or}
+use Rattle.report_text.proofs.Vocabulary.{◌≡◌, ◌≢◌, ◌≤◌, ◌^◌, ℕ, zero, suc, pos, Option, Some, None, List, [], ◌∷◌, ◌++◌, map, length, get_or, codes, if◌then◌else◌, refl, sym, ap, subst, ◌∙◌, append-nil, arith, ℤ, negsuc, ◌≤ℤ◌, Bool, true, false, cond, ne_eqb, slice_split, after_first, list_any, bytes_eq, length-replicate, Decides-int_eq, ints, signed_decimal, int_eq, digits_value, Circuit, Version, First, Second, Tech, Words, period_line, version_line, IsSmallPeriod, ReportFault, NoMemory, Scale, Heading, cycle_forms, forms_after, forms_of, HasHeading, HasShown, IsSmallCount, period_shown_line, scale_in, whole, HasFault, HasFirstFault, cycle_denoted, den_denoted, is_line_feed, scale_denoted, version_denoted, word_at, spaced_words, Left, Stops, Fraction, IsBelow, fraction_text, is_slash, HasNoSlash, whole_no_slash, unwrap_or}
 use Rattle.report_text.specs.declared.sections.Shown.{Shown}
 use Rattle.report_text.proofs.RowLemmas.{length_pathed}
 use Rattle.report_text.proofs.WalkLemmas.{after_place, first_place}
@@ -72,14 +72,15 @@ cycle_of word count = if bytes_eq word (codes "floor") then 0 else digits_value 
 
 -- the image of an item
 map_at : (xs : List (List ℕ)) (place : ℕ)
-    → get_or (map words_of xs) place (words_of []) ≡ words_of (get_or xs place [])
+    → get_or (map spaced_words xs) place (spaced_words []) ≡ spaced_words (get_or xs place [])
 map_at [] place = refl
 map_at (x ∷ xs) zero = refl
 map_at (x ∷ xs) (suc place) = map_at xs place
 
 -- what is said of the line that shows the period
 shown_count : (count : Option ℕ) → IsSmallCount count
-    → cycle_of (get_or (shown_line count) 0 []) (get_or (shown_line count) 1 []) ≡ unwrap_or count 0
+    → cycle_of (get_or (period_shown_line count) 0 []) (get_or (period_shown_line count) 1 [])
+    ≡ unwrap_or count 0
 shown_count None small = refl
 shown_count (Some count) small = value_of count (small_number count (omega (arith, small.1)))
 
@@ -93,15 +94,16 @@ cycle_few Second (Some count) small = omega (arith, length_pathed count, small.1
 
 -- what the first three lines denote of the others
 module _ (text : List ℕ) (heading : Heading) (rest : List Words)
-    (words : map words_of (slice_split is_line_feed text) ≡ version_line heading.version
-    ∷ period_line heading.period ∷ shown_line heading.count ∷ rest)
+    (words : map spaced_words (slice_split is_line_feed text) ≡ version_line heading.version
+    ∷ period_line heading.period ∷ period_shown_line heading.count ∷ rest)
     (small : IsSmallPeriod heading.period) (few : IsSmallCount heading.count) where
   -- the words of the lines
   denoted : (line place : ℕ) → word_at text line place ≡ get_or (get_or (version_line
-      heading.version ∷ period_line heading.period ∷ shown_line heading.count ∷ rest) line
-      (words_of [])) place []
+      heading.version ∷ period_line heading.period ∷ period_shown_line heading.count ∷ rest) line
+      (spaced_words [])) place []
   denoted line place = ap (λ ws. get_or ws place []) (sym
-      (map_at (slice_split is_line_feed text) line) ∙ ap (λ ls. get_or ls line (words_of [])) words)
+      (map_at (slice_split is_line_feed text) line) ∙ ap (λ ls. get_or ls line
+      (spaced_words [])) words)
 
   denoted_version : version_denoted text ≡ heading.version
   denoted_version = search (arith, denoted, version_told)
@@ -133,7 +135,7 @@ module _ {circuit : Circuit} {text : List ℕ} {new : Left} {heading : Heading}
       → HasFirstFault circuit (scale_in tech heading.period)
       (forms_of heading.version (unwrap_or heading.count 0) (length circuit.registers)) 1 text fault
       → HasFault circuit tech text fault
-  fault_given = fault_by text heading (map words_of (slice_split is_line_feed new.text))
+  fault_given = fault_by text heading (map spaced_words (slice_split is_line_feed new.text))
       (has.lines (record { den = pos 1; grid = pos 1 })).words has.small has.count circuit
 
   -- a fault in what shows the period

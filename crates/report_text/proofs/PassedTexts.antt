@@ -1,5 +1,5 @@
 -- A text without a fault spells a report; so each text has a fault as a report or spells one.
-use Rattle.report_text.proofs.Vocabulary.{Constraint, map, pos, ◌≡◌, ◌==◌, ℕ, suc, false, Option, Some, None, List, [], ◌∷◌, ◌++◌, length, if◌then◌else◌, refl, sym, ap, ◌∙◌, subst, append-nil, arith, ◌<◌, ◌≤◌, ◌+◌, ◌-◌, ◌*◌, ◌^◌, append_assoc, zero, Bool, true, take, drop, inl, inr, range_with_len, position, ne_eqb, none-some, length-take, Circuit, Cycle, Floor, Report, Version, First, Second, Tech, Spells, Words, count_line, few_registers, Extra, BadLine, Missing, Form, Scale, Heading, Parts, cycle_forms, forms_after, lead_forms, fields_of, forms_of, HasHeading, HasShown, IsSmallCount, HasParts, scale_in, whole, is_line_feed, words_of, HasFault, cycle_denoted, scale_denoted, version_denoted, HasFirstFault, fault_of, IsFlawless, DenotesConstraint, DenotesLead, DenotesPath, report_denoted, Left, ReadsLine, DenotesTimed, TakesLine, DenotesLine, HasBody, count_in, Counted, HasPathed, HasRows, IsSmallScale, SaysMerge, SaysNode, SaysSource, Flaw, LineHasFlaw, ReportFault, HasFaultOrReport, codes, unwrap_or, wire_line, IsBelow}
+use Rattle.report_text.proofs.Vocabulary.{Constraint, map, pos, ◌≡◌, ◌==◌, ℕ, suc, false, Option, Some, None, List, [], ◌∷◌, ◌++◌, length, if◌then◌else◌, refl, sym, ap, ◌∙◌, subst, append-nil, arith, ◌<◌, ◌≤◌, ◌+◌, ◌-◌, ◌*◌, ◌^◌, append_assoc, zero, Bool, true, take, drop, inl, inr, range_with_len, position, ne_eqb, none-some, length-take, Circuit, Cycle, Floor, Report, Version, First, Second, Tech, Spells, Words, count_line, few_registers, Extra, BadLine, Missing, LineForm, Scale, Heading, Parts, cycle_forms, forms_after, lead_forms, fields_of, forms_of, HasHeading, HasShown, IsSmallCount, HasParts, scale_in, whole, is_line_feed, spaced_words, HasFault, cycle_denoted, scale_denoted, version_denoted, HasFirstFault, flaw_fault, IsFlawless, DenotesConstraint, DenotesLead, DenotesPath, report_denoted, Left, ReadsLine, DenotesTimed, TakesLine, DenotesLine, HasBody, count_in, Counted, HasPathed, HasRows, IsSmallScale, SaysMerge, SaysNode, SaysSource, Flaw, LineHasFlaw, ReportFault, HasFaultOrReport, codes, unwrap_or, wire_line, IsBelow}
 use Rattle.cts_model.specs.declared.report.Version.TheVariants as version
 use Rattle.report_text.specs.declared.tree_values.TotalLine.{TotalLine}
 use Rattle.report_text.specs.LineForms as form
@@ -14,11 +14,11 @@ use Rattle.report_text.proofs.TreeLines.{merge_found, node_found, source_found, 
 use Rattle.report_text.proofs.JudgedWords.{line_judged}
 
 -- by these forms there is no fault in what is left
-abbrev pub IsSound : Circuit → Scale → List Form → Left → Type 0
+abbrev pub IsSound : Circuit → Scale → List LineForm → Left → Type 0
 IsSound circuit scale forms left = HasFirstFault circuit scale forms left.line left.text None
 
 -- a value that is given up to a place, and after it no fault by the forms that are to follow
-pub record Passed {X : Type 0} (circuit : Circuit) (scale : Scale) (more : List Form)
+pub record Passed {X : Type 0} (circuit : Circuit) (scale : Scale) (more : List LineForm)
     (Has : Left → X → Type 0) : Type 0 where
   pub new : Left
   pub value : X
@@ -26,7 +26,7 @@ pub record Passed {X : Type 0} (circuit : Circuit) (scale : Scale) (more : List 
   pub rest : IsSound circuit scale more new
 
 -- the words of the next line
-record PassedLine (circuit : Circuit) (scale : Scale) (due : Form) (more : List Form)
+record PassedLine (circuit : Circuit) (scale : Scale) (due : LineForm) (more : List LineForm)
     (old : Left) : Type 0 where
   words : Words
   new : Left
@@ -39,7 +39,8 @@ line_taken : (old : Left) (end : ℕ) → (length old.text == 0) ≡ false
     (record { line = old.line + 1; text = drop (end + 1) old.text })
 line_taken old end some found = search (arith, cut_within, length-take)
 
-line_passed : (circuit : Circuit) (scale : Scale) (due : Form) (more : List Form) (old : Left)
+line_passed : (circuit : Circuit) (scale : Scale) (due : LineForm) (more : List LineForm)
+    (old : Left)
     → IsSound circuit scale (due ∷ more) old → PassedLine circuit scale due more old
 line_passed circuit scale due more old sound =
     at (length old.text == 0) (position is_line_feed old.text) refl refl sound
@@ -51,7 +52,7 @@ line_passed circuit scale due more old sound =
     at true end some found is = absurd (none-some (Missing old.line) is)
     at false None some found is = absurd (none-some (BadLine old.line) is)
     at false (Some end) some found (None, flawless, rest) = record {
-      words = words_of (take end old.text);
+      words = spaced_words (take end old.text);
       new = record { line = old.line + 1; text = drop (end + 1) old.text };
       line = line_read (line_taken old end some found) _ _ due _ refl flawless;
       rest = rest;
@@ -60,7 +61,7 @@ line_passed circuit scale due more old sound =
 
 -- where words without a flaw tell a value, the next line does
 pub denoted_passed : {X : Type 0} (circuit : Circuit)
-    (scale : Scale) (due : Form) (more : List Form) → (Denotes : Words → X → Type 0)
+    (scale : Scale) (due : LineForm) (more : List LineForm) → (Denotes : Words → X → Type 0)
     (old : Left) → ((words : Words) → 0 < length words → IsFlawless circuit scale due words
     → (value : X) × Denotes words value) → IsSound circuit scale (due ∷ more) old
     → Passed circuit scale more (DenotesLine circuit scale due Denotes old)
@@ -75,11 +76,13 @@ denoted_passed circuit scale due more Denotes old denotes sound =
     }
 
 -- so many steps, each of lines by the forms that are due at its place
-pub steps_passed : {X : Type 0} (circuit : Circuit) (scale : Scale) (more : List Form)
-    → (Has : ℕ → Left → X → Type 0) (count : ℕ) (due : ℕ → List Form) → (forms : (place rest : ℕ)
-    → List Form) → ((place rest : ℕ) → forms place (suc rest) ≡ due place ++ forms (place + 1) rest)
+pub steps_passed : {X : Type 0} (circuit : Circuit) (scale : Scale) (more : List LineForm)
+    → (Has : ℕ → Left → X → Type 0) (count : ℕ) (due : ℕ → List LineForm) → (forms :
+    (place rest : ℕ)
+    → List LineForm) → ((place rest : ℕ) → forms place (suc rest) ≡ due place ++ forms
+    (place + 1) rest)
     → ((place : ℕ) → forms place 0 ≡ [])
-    → ((place : ℕ) (suffix : List Form) (between : Left) (value : X)
+    → ((place : ℕ) (suffix : List LineForm) (between : Left) (value : X)
     → place < count → Has place between value → IsSound circuit scale (due place ++ suffix) between
     → Passed circuit scale suffix (Has (place + 1)))
     → (rest place : ℕ) → place + rest ≡ count → (between : Left)
@@ -97,7 +100,7 @@ steps_passed circuit scale more Has count due forms begins ends next (suc rest) 
     (omega (arith, last)) step.new step.value step.has step.rest
 
 -- a line without a flaw is that of a row
-abbrev pub IsFound : {X : Type 0} (circuit : Circuit) (scale : Scale) (due : ℕ → Form)
+abbrev pub IsFound : {X : Type 0} (circuit : Circuit) (scale : Scale) (due : ℕ → LineForm)
     (Says : ℕ → Words → X → Type 0) (first count : ℕ) → Type 0
 IsFound {X} circuit scale due Says first count = (number : ℕ) (words : Words)
     → number < first + count → 0 < length words → IsFlawless circuit scale (due number) words
@@ -106,8 +109,8 @@ IsFound {X} circuit scale due Says first count = (number : ℕ) (words : Words)
 module _ (circuit : Circuit) (scale : Scale) where
   -- ---- lines of one form
 
-  rows_passed : {X : Type 0} (due : ℕ → Form) (Says : ℕ → Words → X → Type 0) (first count : ℕ)
-      → (more : List Form) (old : Left) → IsFound circuit scale due Says first count
+  rows_passed : {X : Type 0} (due : ℕ → LineForm) (Says : ℕ → Words → X → Type 0) (first count : ℕ)
+      → (more : List LineForm) (old : Left) → IsFound circuit scale due Says first count
       → IsSound circuit scale (map due (range_with_len first count) ++ more) old
       → Passed circuit scale more (HasRows circuit scale due Says first count old)
   rows_passed {X} due Says first count more old found sound = steps_passed _ _ more
@@ -118,7 +121,7 @@ module _ (circuit : Circuit) (scale : Scale) where
       (subst (λ start. IsSound circuit scale (map due (range_with_len start count) ++ more) old)
       (omega arith) sound)
     where
-      next : (place : ℕ) (suffix : List Form) (between : Left) (value : List X) → place < count
+      next : (place : ℕ) (suffix : List LineForm) (between : Left) (value : List X) → place < count
           → HasRows circuit scale due Says first place old between value
           → IsSound circuit scale (due (first + place) ∷ suffix) between
           → Passed circuit scale suffix (HasRows circuit scale due Says first (place + 1) old)
@@ -132,7 +135,7 @@ module _ (circuit : Circuit) (scale : Scale) where
             rest = line.rest;
           }
 
-  pub cycle_passed : (count : ℕ) (more : List Form) (old : Left)
+  pub cycle_passed : (count : ℕ) (more : List LineForm) (old : Left)
       → IsSound circuit scale (cycle_forms version.First count ++ more) old
       → Passed circuit scale more (HasRows circuit scale (λ number. form.Constraint)
       (λ number. DenotesConstraint circuit) 0 count old)
@@ -140,7 +143,7 @@ module _ (circuit : Circuit) (scale : Scale) where
       some. constraint_found circuit scale words) (subst (λ forms. IsSound circuit scale
       (forms ++ more) old) (sym (one_form form.Constraint 0 count)) sound)
 
-  pub pathed_passed : (count : ℕ) (more : List Form) (old : Left)
+  pub pathed_passed : (count : ℕ) (more : List LineForm) (old : Left)
       → IsSound circuit scale (cycle_forms version.Second count ++ more) old
       → Passed circuit scale more (HasPathed circuit scale count old)
   pathed_passed count more old sound = steps_passed circuit scale more
@@ -149,7 +152,7 @@ module _ (circuit : Circuit) (scale : Scale) where
       count 0 (omega arith) old ([], [])
       (search (arith, read_none circuit scale old)) sound
     where
-      next : (place : ℕ) (suffix : List Form) (between : Left)
+      next : (place : ℕ) (suffix : List LineForm) (between : Left)
           (value : List Constraint × List (List ℕ)) → place < count
           → HasPathed circuit scale place old between value
           → IsSound circuit scale (form.Constraint ∷ form.Path ∷ suffix) between
@@ -171,8 +174,8 @@ module _ (circuit : Circuit) (scale : Scale) where
   -- ---- the sections
 
   -- so many lines after how many they are
-  counted_passed : {X : Type 0} (keyword : List ℕ) (due : ℕ → Form)
-      (Says : ℕ → Words → X → Type 0) (first count : ℕ) (more : List Form) → count < 10 ^ 37
+  counted_passed : {X : Type 0} (keyword : List ℕ) (due : ℕ → LineForm)
+      (Says : ℕ → Words → X → Type 0) (first count : ℕ) (more : List LineForm) → count < 10 ^ 37
       → IsFound circuit scale due Says first count → (old : Left) → IsSound circuit scale
       ((form.Count keyword count ∷ map due (range_with_len first count)) ++ more) old
       → Passed circuit scale more (Counted circuit scale keyword due Says first count old)
@@ -195,19 +198,19 @@ module _ (circuit : Circuit) (scale : Scale) where
         rest = rows.rest;
       }
 
-  leads_passed : (version : Version) (count : ℕ) (more : List Form) (old : Left)
+  leads_passed : (version : Version) (count : ℕ) (more : List LineForm) (old : Left)
       → IsSound circuit scale (lead_forms version count ++ more) old
       → Passed circuit scale more (HasRows circuit scale (λ number. form.Lead)
       (λ number. DenotesLead circuit) 0 (count_in version count) old)
   leads_passed version count more old sound = rows_passed _ _ 0 _ more old
       (λ number words within some. lead_found circuit scale words) sound
 
-  pub body_passed : (version : Version) (count : ℕ) (more : List Form) (old : Left)
+  pub body_passed : (version : Version) (count : ℕ) (more : List LineForm) (old : Left)
       → IsSmallScale scale → count ≤ 4097
       → IsSound circuit scale (forms_after version count ++ more) old
       → Passed circuit scale more (HasBody circuit scale version count old)
   body_passed version count more old small few sound =
-      let last : List Form = form.Total ∷ more in
+      let last : List LineForm = form.Total ∷ more in
       let apart = subst (λ forms. IsSound circuit scale forms old) (append_assoc
       (register_forms count ++ lead_forms version count ++ merge_forms count ++ form.Source
       ∷ node_forms count) (form.Total ∷ []) more ∙ sections_apart (register_forms count)
@@ -263,7 +266,7 @@ module _ (circuit : Circuit) (scale : Scale) where
       }
 
 -- the heading
-heading_passed : (circuit : Circuit) (scale : Scale) (more : List Form) (old : Left)
+heading_passed : (circuit : Circuit) (scale : Scale) (more : List LineForm) (old : Left)
     → IsSound circuit scale (form.Version ∷ form.Period ∷ form.Show ∷ [] ++ more) old
     → Passed circuit scale more (HasHeading circuit old)
 heading_passed circuit scale more old sound =
@@ -286,7 +289,7 @@ heading_passed circuit scale more old sound =
 
 -- what shows the period
 shown_passed : (circuit : Circuit) (scale : Scale) (version : Version) (count : Option ℕ)
-    → (more : List Form) (old : Left) → IsSmallCount count
+    → (more : List LineForm) (old : Left) → IsSmallCount count
     → IsSound circuit scale (cycle_forms version (unwrap_or count 0) ++ more) old
     → Passed circuit scale more (HasShown circuit scale version count old)
 shown_passed circuit scale First None more old small sound = record {
@@ -351,7 +354,7 @@ parts_passed circuit tech text sound =
     (cycle_forms (version_denoted text) (cycle_denoted text)
     ++ forms_after (version_denoted text) registers) (whole text) sound in
     let scale = scale_in tech heading.value.period in
-    let suffix : List Form = forms_after heading.value.version registers in
+    let suffix : List LineForm = forms_after heading.value.version registers in
     let shown = shown_passed circuit scale heading.value.version heading.value.count suffix
     heading.new heading.has.count (forms_given heading.has tech heading.rest) in
     let body = body_passed circuit scale heading.value.version registers [] shown.new
@@ -378,7 +381,8 @@ report_spelled circuit tech text sound =
     (report_denoted tech parts, parts_spelled has)
 
 -- a text has a first fault by forms, or has none
-forms_judged : (circuit : Circuit) (scale : Scale) (forms : List Form) (line : ℕ) → (text : List ℕ)
+forms_judged : (circuit : Circuit) (scale : Scale) (forms : List LineForm) (line : ℕ) →
+    (text : List ℕ)
     → (fault : Option ReportFault) × HasFirstFault circuit scale forms line text fault
 forms_judged circuit scale [] line text = (_, refl)
 forms_judged circuit scale (due ∷ more) line text =
@@ -389,11 +393,11 @@ forms_judged circuit scale (due ∷ more) line text =
     Later end fault = HasFirstFault circuit scale more (line + 1) (drop (end + 1) text) fault
 
     by : (end : ℕ) → ((fault : Option ReportFault) × Later end fault) → (flaw : Option Flaw)
-        → LineHasFlaw circuit (fields_of circuit scale due (words_of (take end text)))
-        (words_of (take end text)) flaw
+        → LineHasFlaw circuit (fields_of circuit scale due (spaced_words (take end text)))
+        (spaced_words (take end text)) flaw
         → (fault : Option ReportFault) × IsJudged circuit scale due more line text fault end
     by end later None has = (later.0, (None, has, later.1))
-    by end later (Some flaw) has = (Some (fault_of due line flaw), (Some flaw, has, refl))
+    by end later (Some flaw) has = (Some (flaw_fault due line flaw), (Some flaw, has, refl))
 
     at : (none : Bool) (end : Option ℕ)
         → ((end : ℕ) → (fault : Option ReportFault) × Later end fault)
@@ -401,7 +405,7 @@ forms_judged circuit scale (due ∷ more) line text =
     at true end later = (Some (Missing line), refl)
     at false None later = (Some (BadLine line), refl)
     at false (Some end) later =
-        let words : Words = words_of (take end text) in
+        let words : Words = spaced_words (take end text) in
         let (flaw, has) = line_judged circuit (fields_of circuit scale due words) words in
         by end (later end) flaw has
 

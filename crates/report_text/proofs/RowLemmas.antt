@@ -1,5 +1,5 @@
 -- Lines of one form, one after the other, and the rows that they tell.
-use Rattle.report_text.proofs.Vocabulary.{ℕ, zero, suc, ◌≡◌, ◌<◌, ◌≤◌, ◌+◌, ◌*◌, All, List, [], ◌∷◌, ◌++◌, map, length, get_or, replicate, refl, sym, ap, ap₂, subst, ◌∙◌, arith, range_with_len, length-append, All-cons, All-nil, All-push, length-map-range_with_len, map-range_with_len_more, Circuit, Constraint, Words, count_line, line_for, HasSmallWeight, IsBetweenRegisters, path_line, pathed_lines, ReportFault, Form, Scale, cycle_forms, Counted, HasPathed, HasRows, SayEach, lines_of, DenotesConstraint, DenotesPath, Left, Reads, Stops, StopsLine, DenotesLine}
+use Rattle.report_text.proofs.Vocabulary.{ℕ, zero, suc, ◌≡◌, ◌<◌, ◌≤◌, ◌+◌, ◌*◌, All, List, [], ◌∷◌, ◌++◌, map, length, get_or, replicate, refl, sym, ap, ap₂, subst, ◌∙◌, arith, range_with_len, length-append, All-cons, All-nil, All-push, length-map-range_with_len, map-range_with_len_more, Circuit, Constraint, Words, count_line, line_for, HasSmallWeight, IsBetweenRegisters, path_line, pathed_lines, ReportFault, LineForm, Scale, cycle_forms, Counted, HasPathed, HasRows, SayEach, lines_of, DenotesConstraint, DenotesPath, Left, Reads, Stops, StopsLine, DenotesLine}
 use Rattle.cts_model.specs.declared.report.Version.TheVariants as version
 use Rattle.report_text.specs.LineForms as form
 use Rattle.report_text.proofs.WalkLemmas.{next_read, next_stops, read_more, read_none, stop_line}
@@ -52,12 +52,12 @@ plain_lines line first [] = refl
 plain_lines line first (row ∷ rows) = search (arith, plain_lines line (first + 1) rows)
 
 -- forms that are numbered
-numbered_step : (due : ℕ → Form) (first place : ℕ) → map due (range_with_len first (place + 1))
+numbered_step : (due : ℕ → LineForm) (first place : ℕ) → map due (range_with_len first (place + 1))
     ≡ map due (range_with_len first place) ++ due (first + place) ∷ []
 numbered_step due first place = map-range_with_len_more due first place (first + place) refl
 
 -- where all are one form
-pub one_form : (due : Form) (first count : ℕ)
+pub one_form : (due : LineForm) (first count : ℕ)
     → map (λ number. due) (range_with_len first count) ≡ replicate count due
 one_form due first zero = refl
 one_form due first (suc count) = ap (λ forms. due ∷ forms) (one_form due (first + 1) count)
@@ -82,7 +82,7 @@ numbered_rows f line default first rows same =
     let here : node ≡ place = omega (arith, is) in
     ap f here ∙ same place within ∙ ap (λ n. line n (get_or rows place default)) is')
 
-module _ {X : Type 0} {circuit : Circuit} {scale : Scale} (due : ℕ → Form)
+module _ {X : Type 0} {circuit : Circuit} {scale : Scale} (due : ℕ → LineForm)
     (Says : ℕ → Words → X → Type 0) (first : ℕ) {old : Left} where
   -- before the first
   pub no_rows : HasRows circuit scale due Says first 0 old old []
@@ -116,7 +116,7 @@ module _ {X : Type 0} {circuit : Circuit} {scale : Scale} (due : ℕ → Form)
         (numbered_step due first) place count has.lines old between fault within has.read
         (stop_line circuit scale (due (first + place)) between fault stops)
 
-module _ {X : Type 0} {circuit : Circuit} {scale : Scale} {keyword : List ℕ} {due : ℕ → Form}
+module _ {X : Type 0} {circuit : Circuit} {scale : Scale} {keyword : List ℕ} {due : ℕ → LineForm}
     {Says : ℕ → Words → X → Type 0} {first count : ℕ} {old new : Left} {rows : List X}
     (has : Counted circuit scale keyword due Says first count old new rows) where
   -- the lines of rows, after how many they are

@@ -1,5 +1,5 @@
 -- Words that are taken one after the other, and a line that is read to its end.
-use Rattle.report_text.proofs.Vocabulary.{◌≡◌, ◌<◌, ◌≤◌, ℕ, nat_le, Bool, true, false, true≢false, if◌then◌else◌, List, [], ◌∷◌, ◌++◌, drop, length, Option, Some, None, Result, Ok, Err, IfOk, refl, sym, ap, ◌∙◌, subst, append_assoc, append-nil, length-append, arith, ◌+◌, ◌^◌, ℤ, pos, cond, All, map, replicate, codes, ◌*◌, get_or, set, take, signed_decimal, flat_map, le-leb, leb-true, nat_tests, drop-drop, map_push, replicate_more, drop-set-lt, drop_more, length-set, replicate-append-replicate, take_more_set, length-slice_split, none-some, All-nil, All-push, All-rest, All-same, flat_map-append, Circuit, Words, constraint_line, line_for, Constraint, Version, First, Second, IsBelow, IsPointBelow, HasSmallWeight, IsBetweenRegisters, path_line, signal_name, origin, Point, Field, Flaw, Form, Scale, LineHasFlaw, WordHasFlaw, rank, sooner_flaw, fields_of, constraint_fields, length_field, ReportFault, fault_of, words_of, Left, ReadsLine, StopsLine, TakesLine, EndsIn, Keeps, LineLeft, ReadsForm, Takes, TakesNext, flaw_in, version_text, DenotesConstraint, DenotesPath, coordinates, version_line, Bor}
+use Rattle.report_text.proofs.Vocabulary.{◌≡◌, ◌<◌, ◌≤◌, ℕ, nat_le, Bool, true, false, true≢false, if◌then◌else◌, List, [], ◌∷◌, ◌++◌, drop, length, Option, Some, None, Result, Ok, Err, IfOk, refl, sym, ap, ◌∙◌, subst, append_assoc, append-nil, length-append, arith, ◌+◌, ◌^◌, ℤ, pos, cond, All, map, replicate, codes, ◌*◌, get_or, set, take, signed_decimal, flat_map, le-leb, leb-true, nat_tests, drop-drop, map_push, replicate_more, drop-set-lt, drop_more, length-set, replicate-append-replicate, take_more_set, length-slice_split, none-some, All-nil, All-push, All-rest, All-same, flat_map-append, Circuit, Words, constraint_line, line_for, Constraint, Version, First, Second, IsBelow, IsPointBelow, HasSmallWeight, IsBetweenRegisters, path_line, signal_name, origin, Point, Field, Flaw, LineForm, Scale, LineHasFlaw, WordHasFlaw, rank, sooner_flaw, fields_of, constraint_fields, length_field, ReportFault, flaw_fault, spaced_words, Left, ReadsLine, StopsLine, TakesLine, EndsIn, Keeps, LineLeft, ReadsForm, Takes, TakesNext, flaw_in, version_text, DenotesConstraint, DenotesPath, coordinates, version_line, Bor}
 use Rattle.cts_model.specs.Vocabulary.{ArePadded}
 use Rattle.report_text.specs.declared.field.Flaw.TheVariants as flaws
 use Rattle.report_text.specs.LineFields as field
@@ -179,7 +179,7 @@ pub whole_line : (circuit : Circuit) (fields : List Field) (words : Words) (flaw
 whole_line circuit fields words flaw (found, has, is) = search (arith, none_sooner)
 
 -- all words of a form
-pub form_read : {circuit : Circuit} {scale : Scale} {form : Form} {fields : List Field}
+pub form_read : {circuit : Circuit} {scale : Scale} {form : LineForm} {fields : List Field}
     {texts : Words} {Holds : Type 0} {old new : LineLeft} {Says : Words → Type 0}
     → fields_of circuit scale form old.words ≡ fields → Takes circuit fields texts Holds old new
     → (old.words ≡ texts → Holds → Says old.words) → ReadsForm circuit scale form Says old new
@@ -195,19 +195,19 @@ form_read {circuit} {scale} {form} {fields} {texts} {Holds} {old} {new} are take
 -- ---- a line of a text
 
 module _ (line : List ℕ) {items slice : List (Bor (List ℕ))} (same : slice ≡ items)
-    (read : map (λ word. word.now) items ≡ words_of line) {start : LineLeft}
+    (read : map (λ word. word.now) items ≡ spaced_words line) {start : LineLeft}
     (begins : start ≡ record { words = map (λ word. word.now) slice; flaw = None }) where
   abbrev words : Words
   words = map (λ word. word.now) slice
 
-  are : words ≡ words_of line
+  are : words ≡ spaced_words line
   are = ap (map (λ word. word.now)) same ∙ read
 
   -- it has a word
   pub some_words : 0 < length start.words
   some_words = search (arith, are, length-slice_split)
 
-  module _ {circuit : Circuit} {scale : Scale} {form : Form} {old new : Left}
+  module _ {circuit : Circuit} {scale : Scale} {form : LineForm} {old new : Left}
       (takes : TakesLine old line new) {Says : Words → Type 0} {left : LineLeft}
       (reads : ReadsForm circuit scale form Says start left) where
     -- what is wrong with it
@@ -228,11 +228,11 @@ module _ (line : List ℕ) {items slice : List (Bor (List ℕ))} (same : slice �
 
     -- and else that is the fault of the text
     pub line_stops : (flaw : Flaw) (fault : ReportFault) → EndsIn circuit [] left (Some flaw)
-        → fault ≡ fault_of form old.line flaw → StopsLine circuit scale form old fault
+        → fault ≡ flaw_fault form old.line flaw → StopsLine circuit scale form old fault
     line_stops flaw fault ends is memory = rw (takes.some, takes.end) (
       flaw,
       subst (λ (ws : Words). LineHasFlaw circuit (fields_of circuit scale form ws) ws (Some flaw))
-          (are ∙ ap words_of takes.line_is) (line_judged (Some flaw) ends),
+          (are ∙ ap spaced_words takes.line_is) (line_judged (Some flaw) ends),
       is,
     )
 

@@ -1,6 +1,6 @@
 -- A line of the timing without a flaw is that of a value, and the line of a value within the bounds
 -- has no flaw.
-use Rattle.report_text.proofs.Vocabulary.{fields_of, if◌then◌else◌, ℤ, ◌≡◌, ◌<◌, ◌≤◌, ◌-◌, ◌^◌, ℕ, zero, suc, pos, Bool, true, false, cond, List, [], ◌∷◌, All, map, replicate, length, Option, Some, None, codes, refl, sym, ap, ◌∙◌, subst, arith, false_from_ne_true, ints, length-map, All-cons, All-nil, bytes_eq-Decides, signed_decimal, AllByRecursion, bytes_eq, Fraction, few_digits, no_fraction_minus, one_number_text, Circuit, Constraint, Version, First, Second, Lead, Zero, Tight, IsBelow, Words, constraint_line, count_line, line_for, period_line, register_line, IsBetweenRegisters, HasSmallWeight, LeadsAmong, IsSmallLead, lead_line, path_line, signal_name, version_line, IsSmallPeriod, AreSmallSlacks, Field, Scale, Timed, LineHasFlaw, constraint_fields, is_word, IsSmallCount, shown_line, IsFlawless, DenotesConstraint, DenotesLead, DenotesPath, IsSmallScale, DenotesTimed}
+use Rattle.report_text.proofs.Vocabulary.{fields_of, if◌then◌else◌, ℤ, ◌≡◌, ◌<◌, ◌≤◌, ◌-◌, ◌^◌, ℕ, zero, suc, pos, Bool, true, false, cond, List, [], ◌∷◌, All, map, replicate, length, Option, Some, None, codes, refl, sym, ap, ◌∙◌, subst, arith, false_from_ne_true, ints, length-map, All-cons, All-nil, bytes_eq-Decides, signed_decimal, AllByRecursion, bytes_eq, Fraction, few_digits, no_fraction_minus, one_number_text, Circuit, Constraint, Version, First, Second, Lead, Zero, Tight, IsBelow, Words, constraint_line, count_line, line_for, period_line, register_line, IsBetweenRegisters, HasSmallWeight, LeadsAmong, IsSmallLead, lead_line, path_line, signal_name, version_line, IsSmallPeriod, AreSmallSlacks, Field, Scale, Timed, LineHasFlaw, constraint_fields, is_word, IsSmallCount, period_shown_line, IsFlawless, DenotesConstraint, DenotesLead, DenotesPath, IsSmallScale, DenotesTimed}
 use Rattle.std.proofs.lemmas.Fmt.{decimal_digit}
 use Rattle.report_text.specs.LineFields as field
 use Rattle.report_text.specs.LineForms as form
@@ -41,18 +41,18 @@ module _ (circuit : Circuit) (scale : Scale) where
       values_plain circuit period_fields (tt, (period, tt)) (tt, (tt, tt)) (tt, (small, tt))
 
   pub show_found : (words : Words) → IsFlawless circuit scale form.Show words
-      → (count : Option ℕ) × ((words ≡ shown_line count) × IsSmallCount count)
+      → (count : Option ℕ) × ((words ≡ period_shown_line count) × IsSmallCount count)
   show_found words flawless = at (is_word words 0 (codes "floor")) flawless
     where
       at : (floor : Bool) → LineHasFlaw circuit (shown_fields floor) words None
-          → (count : Option ℕ) × ((words ≡ shown_line count) × IsSmallCount count)
+          → (count : Option ℕ) × ((words ≡ period_shown_line count) × IsSmallCount count)
       at true flawless = search (arith, line_spelled)
       at false flawless =
           let line = line_spelled circuit cycle_fields words (tt, (omega arith, tt)) flawless in
           (Some line.values.1.0, (line.are, (line.admitted.1.0.0, line.admitted.1.0.1)))
 
   pub show_plain : (count : Option ℕ) → IsSmallCount count
-      → IsFlawless circuit scale form.Show (shown_line count)
+      → IsFlawless circuit scale form.Show (period_shown_line count)
   show_plain None small = values_plain circuit (shown_fields true) (tt, tt) (tt, tt) (tt, tt)
   show_plain (Some count) small = values_plain circuit cycle_fields (tt, (count, tt))
       (tt, (omega arith, tt)) (tt, (small, tt))

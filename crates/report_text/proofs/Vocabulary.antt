@@ -39,13 +39,13 @@ pub use Rattle.cts_model.specs.declared.tree.Show.TheVariants.{Root, Pair}
 pub use Rattle.cts_model.specs.Vocabulary.{host_name, is_named, has_host, is_host, HasTreeBounds, is_name, is_short, is_name_byte, root_of, source_of}
 pub use Rattle.cts_model.specs.declared.tree.Show.TheVariants.{Sink}
 pub use Rattle.name_set.proofs.OneName.{one_register, one_signal, few_registers}
-pub use Rattle.report_text.specs.Common.{signed_decimal, range_with_len, flat_map, list_any, slice_split, after_first, position_or_len, bytes_eq, digits_value, IsLowest, fraction_text, IsBelow, SpellsWhole, SpellsQuotient, HaveSmallSizes, IsNoFraction, is_slash, Fraction, Circuit, Constraint, Point, Report, Version, First, Second, Lead, Tech, Wire, register_name, IsPointBelow, HasSmallWeight, HasSmallWeights, IsBetweenRegisters, ShowsPeriodAmong, count_in, cycle_length, HasTimingBounds, IsMergeShow, IsOfSize, IsSmallWire, IsSourceShow, IsWithinBounds, ShowsAmong, Spells, LeadsAmong, IsSmallLead, lead_line, lines_below, merge_line_at, no_wire, node_line_at, origin, period_show_lines, register_line_at, report_lines, show_words, source_line, timing_lines, tree_lines, version_line, path_line, signal_name, number_at, length_text, pathed_lines, point_words, wire_words, Words, line_for, count_line, period_line, register_line, text_of, line_of, constraint_line, slack_text, IsSmallPeriod, arrival_of, AreSmallSlacks, IsSmallSlack, grid_of, scheduled_length, register_names, ReportFault, NoMemory, Extra, BadLine, Missing, Flaw, Form, Scale, Heading, Parts, Timed, MergeLine, NodeLine, SourceLine}
+pub use Rattle.report_text.specs.Common.{signed_decimal, range_with_len, flat_map, list_any, slice_split, after_first, position_or_len, bytes_eq, digits_value, IsLowest, fraction_text, IsBelow, SpellsWhole, SpellsQuotient, HaveSmallSizes, IsNoFraction, is_slash, Fraction, Circuit, Constraint, Point, Report, Version, First, Second, Lead, Tech, Wire, register_name, IsPointBelow, HasSmallWeight, HasSmallWeights, IsBetweenRegisters, ShowsPeriodAmong, count_in, cycle_length, HasTimingBounds, IsMergeShow, IsOfSize, IsSmallWire, IsSourceShow, IsWithinBounds, ShowsAmong, Spells, LeadsAmong, IsSmallLead, lead_line, lines_below, merge_line_at, no_wire, node_line_at, origin, period_show_lines, register_line_at, report_lines, show_words, source_line, timing_lines, tree_lines, version_line, path_line, signal_name, number_at, length_text, pathed_lines, point_words, wire_words, Words, line_for, count_line, period_line, register_line, text_of, line_of, constraint_line, slack_text, IsSmallPeriod, arrival_of, AreSmallSlacks, IsSmallSlack, grid_of, scheduled_length, register_names, ReportFault, NoMemory, Extra, BadLine, Missing, Flaw, LineForm, Scale, Heading, Parts, Timed, MergeLine, NodeLine, SourceLine}
 pub use Rattle.report_text.proofs.DenotedLines.{reaches_in, shows_in, places_in, timed_line, lines_after, denoted_lines, lines_of}
-pub use Rattle.report_text.specs.Vocabulary.{HasBody, begin_of, report_denoted, sink_reach, AreSteps, WordHasFlaw, sooner_flaw, rank, cycle_forms, forms_after, register_named, constraint_fields, length_field, is_word, slack_field, IsSmallCount, HasHeading, HasShown, HasStepsFlaw, IsBetween, IsNegativeQuotient, IsRefusedFor, version_text, HasFaultOrReport, OneReport, IsNumberOf, signal_names, HasParts, scale_in, whole, suffix, is_line_feed, words_of, HasFault, fault_of, HasPathed, HasRows, Counted, flaw_in, EndsIn, Keeps, LineLeft, ReadsForm, Takes, TakesNext, DenotesTimed, DenotesConstraint, DenotesLead, DenotesPath, SaysMerge, SaysNode, SaysSource, IsSmallScale, wire_line, coordinates, Left, ReadsLine, Stops, DenotesLine, TakesLine}
+pub use Rattle.report_text.specs.Vocabulary.{HasBody, begin_of, report_denoted, sink_reach, AreSteps, WordHasFlaw, sooner_flaw, rank, cycle_forms, forms_after, register_named, constraint_fields, length_field, is_word, slack_field, IsSmallCount, HasHeading, HasShown, HasStepsFlaw, IsBetween, IsNegativeQuotient, IsRefusedFor, version_text, HasFaultOrReport, OneReport, IsNumberOf, signal_names, HasParts, scale_in, whole, suffix, is_line_feed, spaced_words, HasFault, flaw_fault, HasPathed, HasRows, Counted, flaw_in, EndsIn, Keeps, LineLeft, ReadsForm, Takes, TakesNext, DenotesTimed, DenotesConstraint, DenotesLead, DenotesPath, SaysMerge, SaysNode, SaysSource, IsSmallScale, wire_line, coordinates, Left, ReadsLine, Stops, DenotesLine, TakesLine}
 pub use Rattle.report_text.specs.Fields.{AreFewSteps, IsFormed, IsFractionForm, IsWholeSteps, IsFirstFlaw, LineHasFlaw, NamesRegister, NamesSignal, EachWord, IsFit, IsKnown, IsWithin}
 pub use Rattle.report_text.specs.Forms.{lead_forms, forms_of, fields_of, has_points, node_fields, points_of}
 pub use Rattle.report_text.specs.LineFields.{Period, Steps, Field, Register}
 pub use Rattle.report_text.specs.ReportFaults.{HasFirstFault, cycle_denoted, den_denoted, scale_denoted, version_denoted, word_at}
 pub use Rattle.report_text.specs.Walks.{StopsLine, IsFlawless, SayEach, Reads}
-pub use Rattle.report_text.specs.Values.{shown_line, merged_line, placed_line, sourced_line}
+pub use Rattle.report_text.specs.Values.{period_shown_line, merged_line, placed_line, sourced_line}
 pub use Rattle.report_text.specs.declared.field.Flaw.TheVariants.{Unknown, Unfit, Large}

@@ -1,6 +1,6 @@
 -- Lines that are taken from a text one after the other, the first flaw of a line, and the first
 -- fault of a text.
-use Rattle.report_text.proofs.Vocabulary.{◌≡◌, ◌↔◌, ℕ, List, ◌∷◌, Option, Some, None, refl, zero, suc, ◌<◌, ◌+◌, ◌-◌, ◌==◌, Bool, true, false, Result, Ok, Err, IfErr, IsErrAnd, [], ◌++◌, map, length, take, drop, get_or, MatchBool, MatchOption, sym, ap, ap₂, subst, ◌∙◌, append_assoc, append-nil, arith, drop-cons, nat_lt, length-append, lt-ltb, eq-eqb, ne_eqb, slice_split, position, position_or_len, join_with_byte, nat_tests, flat_map-append, take-append-drop, drop-drop, take_at, join_with_byte-slice_split, length-slice_split, slice_split_first, passes_at_first, Circuit, Words, line_of, Field, Flaw, Unknown, Unfit, Large, EachWord, IsFirstFlaw, IsFit, IsFormed, IsKnown, IsWithin, LineHasFlaw, WordHasFlaw, sooner_flaw, ReportFault, BadLine, Missing, Form, Scale, fields_of, HasFirstFault, is_line_feed, words_of, fault_of, IsFlawless, Left, TakesLine, Reads, ReadsLine, Stops, StopsLine, none-some, same_Some}
+use Rattle.report_text.proofs.Vocabulary.{◌≡◌, ◌↔◌, ℕ, List, ◌∷◌, Option, Some, None, refl, zero, suc, ◌<◌, ◌+◌, ◌-◌, ◌==◌, Bool, true, false, Result, Ok, Err, IfErr, IsErrAnd, [], ◌++◌, map, length, take, drop, get_or, MatchBool, MatchOption, sym, ap, ap₂, subst, ◌∙◌, append_assoc, append-nil, arith, drop-cons, nat_lt, length-append, lt-ltb, eq-eqb, ne_eqb, slice_split, position, position_or_len, join_with_byte, nat_tests, flat_map-append, take-append-drop, drop-drop, take_at, join_with_byte-slice_split, length-slice_split, slice_split_first, passes_at_first, Circuit, Words, line_of, Field, Flaw, Unknown, Unfit, Large, EachWord, IsFirstFlaw, IsFit, IsFormed, IsKnown, IsWithin, LineHasFlaw, WordHasFlaw, sooner_flaw, ReportFault, BadLine, Missing, LineForm, Scale, fields_of, HasFirstFault, is_line_feed, spaced_words, flaw_fault, IsFlawless, Left, TakesLine, Reads, ReadsLine, Stops, StopsLine, none-some, same_Some}
 use Rattle.report_text.specs.declared.field.Flaw.TheVariants.{Form as Malformed}
 use Rattle.report_text.proofs.OneLine.{IsLine, Lacks, words_cut, words_lack}
 
@@ -97,8 +97,8 @@ module _ {old new : Left} {line : List ℕ} (taken : TakesLine old line new) whe
       (sym taken.line_is) (drop-drop 1 (length line) old.text ∙ sym taken.text)
 
   -- a line that has no flaw by the form that is due
-  pub line_read : (circuit : Circuit) (scale : Scale) (form : Form) (words : Words)
-      → words ≡ words_of line → IsFlawless circuit scale form words
+  pub line_read : (circuit : Circuit) (scale : Scale) (form : LineForm) (words : Words)
+      → words ≡ spaced_words line → IsFlawless circuit scale form words
       → ReadsLine circuit scale form words old new
   line_read circuit scale form words words_are flawless =
       let is_line : line_of words ≡ line ++ 10 ∷ [] = ap line_of words_are
@@ -112,13 +112,14 @@ module _ {old new : Left} {line : List ℕ} (taken : TakesLine old line new) whe
               line_then ∙ sym (append_assoc line (10 ∷ []) new.text)
               ∙ ap (λ bytes. bytes ++ new.text) (sym is_line ∙ sym (append-nil (line_of words)));
           words =
-              ap (map words_of) line_cut
-              ∙ ap (λ ws. ws ∷ map words_of (slice_split is_line_feed new.text)) (sym words_are);
+              ap (map spaced_words) line_cut
+              ∙ ap (λ ws. ws ∷ map spaced_words (slice_split is_line_feed new.text))
+              (sym words_are);
           number = taken.number;
           faults = λ more fault found. rw (taken.some, taken.end) (
             None,
             subst (λ ws. IsFlawless circuit other form ws)
-                (words_are ∙ ap words_of taken.line_is) flawless',
+                (words_are ∙ ap spaced_words taken.line_is) flawless',
             subst (λ n. HasFirstFault circuit other more n (drop (length line + 1) old.text) fault)
                 taken.number
                 (subst (λ t. HasFirstFault circuit other more new.line t fault) taken.text found),
@@ -131,42 +132,44 @@ pub read_none : (circuit : Circuit) (scale : Scale) (left : Left)
     → Reads circuit scale [] [] left left
 read_none circuit scale left = search arith
 
-module _ {circuit : Circuit} {scale : Scale} {forms : List Form} {lines : List Words}
+module _ {circuit : Circuit} {scale : Scale} {forms : List LineForm} {lines : List Words}
     {old between : Left} (first : Reads circuit scale forms lines old between) where
   -- lines, and more after them
-  pub read_more : (forms' : List Form) (lines' : List Words) (new : Left)
+  pub read_more : (forms' : List LineForm) (lines' : List Words) (new : Left)
       → Reads circuit scale forms' lines' between new
       → Reads circuit scale (forms ++ forms') (lines ++ lines') old new
   read_more forms' lines' new second = search (arith, append_assoc, flat_map-append, length-append)
 
   -- lines, and a fault after them
-  pub stop_after : (forms' : List Form) (fault : ReportFault)
+  pub stop_after : (forms' : List LineForm) (fault : ReportFault)
       → Stops circuit scale forms' between fault → Stops circuit scale (forms ++ forms') old fault
   stop_after forms' fault stops memory more = search (arith, append_assoc)
 
 -- a fault is the first whatever is to follow
-pub stop_before : (circuit : Circuit) (scale : Scale) (forms forms' : List Form) (left : Left)
+pub stop_before : (circuit : Circuit) (scale : Scale) (forms forms' : List LineForm) (left : Left)
     (fault : ReportFault) → Stops circuit scale forms left fault
     → Stops circuit scale (forms ++ forms') left fault
 stop_before circuit scale forms forms' left fault stops memory more = search (arith, append_assoc)
 
 -- the fault of a text whose first line ends there, by the flaw of that line
-abbrev pub IsJudged : Circuit → Scale → (due : Form) (more : List Form) (line : ℕ) (text : List ℕ)
+abbrev pub IsJudged : Circuit → Scale → (due : LineForm) (more : List LineForm) (line : ℕ)
+    (text : List ℕ)
     → Option ReportFault → (end : ℕ) → Type 0
 IsJudged circuit scale due more line text fault end = (flaw : Option Flaw) × LineHasFlaw circuit
-    (fields_of circuit scale due (words_of (take end text))) (words_of (take end text)) flaw
+    (fields_of circuit scale due (spaced_words (take end text))) (spaced_words (take end text)) flaw
     × MatchOption flaw (HasFirstFault circuit scale more (line + 1) (drop (end + 1) text) fault)
-    (λ found. fault ≡ Some (fault_of due line found))
+    (λ found. fault ≡ Some (flaw_fault due line found))
 
 -- and by where that line ends
-abbrev pub IsFaultAt : Circuit → Scale → (due : Form) (more : List Form) (line : ℕ) (text : List ℕ)
+abbrev pub IsFaultAt : Circuit → Scale → (due : LineForm) (more : List LineForm) (line : ℕ)
+    (text : List ℕ)
     → Option ReportFault → (none : Bool) (end : Option ℕ) → Type 0
 IsFaultAt circuit scale due more line text fault none end =
     MatchBool none (fault ≡ Some (Missing line)) (MatchOption end (fault ≡ Some (BadLine line))
     (IsJudged circuit scale due more line text fault))
 
 -- a fault of the next line is the first, whatever is to follow
-pub stop_line : (circuit : Circuit) (scale : Scale) (form : Form) (left : Left)
+pub stop_line : (circuit : Circuit) (scale : Scale) (form : LineForm) (left : Left)
     (fault : ReportFault) → StopsLine circuit scale form left fault
     → Stops circuit scale (form ∷ []) left fault
 stop_line circuit scale form left fault stops memory more =
@@ -174,8 +177,9 @@ stop_line circuit scale form left fault stops memory more =
   where
     at : (none : Bool) (end : Option ℕ) → MatchBool none (fault ≡ Missing left.line)
         (MatchOption end (fault ≡ BadLine left.line) (λ n. (flaw : Flaw) × LineHasFlaw circuit
-        (fields_of circuit scale form (words_of (take n left.text))) (words_of (take n left.text))
-        (Some flaw) × (fault ≡ fault_of form left.line flaw)))
+        (fields_of circuit scale form (spaced_words (take n left.text))) (spaced_words
+        (take n left.text))
+        (Some flaw) × (fault ≡ flaw_fault form left.line flaw)))
         → IsFaultAt circuit scale form more left.line left.text (Some fault) none end
     at true end is = ap Some is
     at false None is = ap Some is
@@ -188,8 +192,9 @@ passed_on (Ok value) fault P is p = tt
 passed_on (Err passed) fault P is p = subst P (sym is) p
 
 -- forms that are due one after the other
-module _ (forms due : ℕ → List Form) (step : (n : ℕ) → forms (n + 1) ≡ forms n ++ due n) where
-  forms_after : (place more : ℕ) → (rest : List Form) × (forms (place + more) ≡ forms place ++ rest)
+module _ (forms due : ℕ → List LineForm) (step : (n : ℕ) → forms (n + 1) ≡ forms n ++ due n) where
+  forms_after : (place more : ℕ) → (rest : List LineForm) × (forms (place + more) ≡ forms place
+      ++ rest)
   forms_after place zero = search (arith, append-nil)
   forms_after place (suc more) =
       let suffix = forms_after place more in (
@@ -200,7 +205,7 @@ module _ (forms due : ℕ → List Form) (step : (n : ℕ) → forms (n + 1) ≡
       )
 
 -- and are read
-module _ {circuit : Circuit} {scale : Scale} (forms due : ℕ → List Form)
+module _ {circuit : Circuit} {scale : Scale} (forms due : ℕ → List LineForm)
     (step : (n : ℕ) → forms (n + 1) ≡ forms n ++ due n) where
   -- the next of them are read
   pub next_read : (place : ℕ) (lines next all : List Words) (old between new : Left)
@@ -225,7 +230,7 @@ module _ {circuit : Circuit} {scale : Scale} (forms due : ℕ → List Form)
 -- ---- one fault
 
 -- two first faults of a text by the same forms are the same
-pub one_first_fault : (circuit : Circuit) (scale : Scale) (forms : List Form) (line : ℕ)
+pub one_first_fault : (circuit : Circuit) (scale : Scale) (forms : List LineForm) (line : ℕ)
     (text : List ℕ) (fault other : Option ReportFault)
     → HasFirstFault circuit scale forms line text fault
     → HasFirstFault circuit scale forms line text other → fault ≡ other
@@ -243,7 +248,7 @@ one_first_fault circuit scale (due ∷ more) line text fault other is is' =
     at false None later is is' = is ∙ sym is'
     at false (Some end) later (None, has, is) (None, has', is') = later end is is'
     at false (Some end) later (Some flaw, has, is) (Some flaw', has', is') =
-        is ∙ ap (λ f. Some (fault_of due line f))
+        is ∙ ap (λ f. Some (flaw_fault due line f))
         (same_Some flaw flaw' (one_flaw circuit _ _ _ _ has has')) ∙ sym is'
     at false (Some end) later (None, has, is) (Some flaw, has', is') =
         absurd (none-some flaw (one_flaw circuit _ _ None (Some flaw) has has'))
@@ -270,7 +275,7 @@ feed_found : (bytes rest : List ℕ) → Lacks 10 bytes
 feed_found bytes rest lacks = search (arith, nat_lt, first_place, lt-ltb, length-append)
 
 -- it is read where it has these words, without a flaw
-pub line_reads : (circuit : Circuit) (scale : Scale) (due : Form) (words : Words) (old : Left)
+pub line_reads : (circuit : Circuit) (scale : Scale) (due : LineForm) (words : Words) (old : Left)
     (rest : List ℕ) → IsLine words → IsFlawless circuit scale due words
     → old.text ≡ line_of words ++ rest
     → ReadsLine circuit scale due words old (record { line = old.line + 1; text = rest })

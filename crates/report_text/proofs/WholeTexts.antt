@@ -1,6 +1,6 @@
 -- A text spells one report at the most and has one fault at the most, and none where it spells one;
 -- so what is read of it is that report, and a text with a fault is refused for that fault.
-use Rattle.report_text.proofs.Vocabulary.{◌≡◌, ◌<◌, ◌≤◌, ◌+◌, ◌^◌, ℕ, suc, pos, Bool, true, false, cond, List, [], ◌∷◌, ◌++◌, All, map, take, drop, get_or, length, codes, refl, sym, ap, ap₂, ◌∙◌, subst, arith, ◌-◌, ◌*◌, zero, None, ◌≢◌, ◌⊎◌, inl, inr, Option, Some, Result, Ok, Err, IfErr, IfOk, flat_map, range_with_len, length-drop, same_lists, take-append-drop, same_Some, quotient_text, Circuit, Constraint, PeriodShow, Cycle, Floor, Point, Version, First, Second, Lead, Zero, Tight, Tech, Show, Pair, Sink, Root, Wire, IsPointBelow, HasSmallWeight, IsBetweenRegisters, IsSmallWire, ShowsAmong, HasSmallWeights, count_in, Spells, lead_line, path_line, pathed_lines, period_show_lines, show_words, version_line, Words, count_line, line_for, line_of, period_line, text_of, Report, one_register, one_signal, few_registers, Scale, Parts, Timed, MergeLine, NodeLine, SourceLine, denoted_lines, timed_line, lines_after, report_denoted, constraint_fields, length_field, slack_field, cycle_forms, forms_after, forms_of, lead_forms, scale_in, lines_of, DenotesConstraint, DenotesLead, IsFlawless, IsSmallScale, SaysMerge, SaysNode, SaysSource, coordinates, merged_line, placed_line, sourced_line, DenotesTimed, Left, Form, IsSmallCount, shown_line, HasFault, HasFirstFault, cycle_denoted, version_denoted, ReportFault, NoMemory, OneReport, unwrap_or}
+use Rattle.report_text.proofs.Vocabulary.{◌≡◌, ◌<◌, ◌≤◌, ◌+◌, ◌^◌, ℕ, suc, pos, Bool, true, false, cond, List, [], ◌∷◌, ◌++◌, All, map, take, drop, get_or, length, codes, refl, sym, ap, ap₂, ◌∙◌, subst, arith, ◌-◌, ◌*◌, zero, None, ◌≢◌, ◌⊎◌, inl, inr, Option, Some, Result, Ok, Err, IfErr, IfOk, flat_map, range_with_len, length-drop, same_lists, take-append-drop, same_Some, quotient_text, Circuit, Constraint, PeriodShow, Cycle, Floor, Point, Version, First, Second, Lead, Zero, Tight, Tech, Show, Pair, Sink, Root, Wire, IsPointBelow, HasSmallWeight, IsBetweenRegisters, IsSmallWire, ShowsAmong, HasSmallWeights, count_in, Spells, lead_line, path_line, pathed_lines, period_show_lines, show_words, version_line, Words, count_line, line_for, line_of, period_line, text_of, Report, one_register, one_signal, few_registers, Scale, Parts, Timed, MergeLine, NodeLine, SourceLine, denoted_lines, timed_line, lines_after, report_denoted, constraint_fields, length_field, slack_field, cycle_forms, forms_after, forms_of, lead_forms, scale_in, lines_of, DenotesConstraint, DenotesLead, IsFlawless, IsSmallScale, SaysMerge, SaysNode, SaysSource, coordinates, merged_line, placed_line, sourced_line, DenotesTimed, Left, LineForm, IsSmallCount, period_shown_line, HasFault, HasFirstFault, cycle_denoted, version_denoted, ReportFault, NoMemory, OneReport, unwrap_or}
 use Rattle.report_text.specs.LineFields as field
 use Rattle.report_text.specs.LineForms as form
 use Rattle.report_text.proofs.AssemblyLemmas.{after_apart, ArePrintable, IsPrintableShow, IsTold, count_shown, cycle_told}
@@ -376,7 +376,7 @@ small_shown Floor small = tt
 -- the first line of what shows it
 shown_first : (circuit : Circuit) (version : Version) (shown : PeriodShow)
     (paths : List (List ℕ)) → period_show_lines version circuit shown paths
-    ≡ shown_line (count_shown shown) ∷ drop 1 (period_show_lines version circuit shown paths)
+    ≡ period_shown_line (count_shown shown) ∷ drop 1 (period_show_lines version circuit shown paths)
 shown_first circuit First (Cycle cycle) paths = refl
 shown_first circuit First Floor paths = refl
 shown_first circuit Second (Cycle cycle) paths = refl
@@ -384,14 +384,14 @@ shown_first circuit Second Floor paths = refl
 
 module _ (circuit : Circuit) (scale : Scale) where
   -- there are as many lines as forms, and each is without a flaw by its form
-  abbrev AreFlawless : List Form → List Words → Type 0
+  abbrev AreFlawless : List LineForm → List Words → Type 0
   AreFlawless [] [] = Unit {0}
   AreFlawless (due ∷ forms) (words ∷ lines) =
       IsFlawless circuit scale due words × AreFlawless forms lines
   AreFlawless forms lines = ⊥
 
   -- their text has no fault
-  no_first_fault : (forms : List Form) (lines : List Words) (line : ℕ) → AreLines lines
+  no_first_fault : (forms : List LineForm) (lines : List Words) (line : ℕ) → AreLines lines
       → AreFlawless forms lines → HasFirstFault circuit scale forms line (text_of lines) None
   no_first_fault [] [] line are flawless = refl
   no_first_fault (due ∷ forms) (words ∷ lines) line are flawless =
@@ -400,9 +400,9 @@ module _ (circuit : Circuit) (scale : Scale) where
       flawless.0).faults forms None (no_first_fault forms lines (line + 1) are.1 flawless.1)
   no_first_fault forms lines line are flawless = absurd flawless
 
-  module _ (more : List Form) (rest : List Words) (after : AreFlawless more rest) where
+  module _ (more : List LineForm) (rest : List Words) (after : AreFlawless more rest) where
     -- the lines of rows
-    rows_flawless : {X : Type 0} (due : ℕ → Form) (Says : ℕ → Words → X → Type 0)
+    rows_flawless : {X : Type 0} (due : ℕ → LineForm) (Says : ℕ → Words → X → Type 0)
         (line : ℕ → X → Words) (first count : ℕ) (rows : List X) → length rows ≡ count
         → All (IsTold Says line) rows → ((number : ℕ) (row : X) → number < first + count
         → Says number (line number row) row → IsFlawless circuit scale (due number)
@@ -487,7 +487,7 @@ module _ {circuit : Circuit} {tech : Tech} {parts : Parts}
       let few = few_registers circuit in
       let last : List Words =
       (codes "wire" ∷ quotient_text parts.body.total.length scale.grid ∷ []) ∷ [] in
-      let nodes_forms : List Form = form.Source ∷ (node_forms count ++ form.Total ∷ []) in
+      let nodes_forms : List LineForm = form.Source ∷ (node_forms count ++ form.Total ∷ []) in
       let nodes_lines : List Words = sourced_line circuit scale.grid parts.body.source
       ∷ count_line (codes "nodes") (2 * count - 1)
       ∷ (lines_of (placed_line scale.grid) 0 parts.body.placed ++ last) in
@@ -511,7 +511,7 @@ module _ {circuit : Circuit} {tech : Tech} {parts : Parts}
             parts.body.merged is.merged_many is.merged (λ number row within says.
             merge_plain circuit scale number _ row small (omega (arith, few, within)) says),
       ) in
-      let leads_forms : List Form =
+      let leads_forms : List LineForm =
       lead_forms parts.heading.version count ++ (merge_forms count ++ nodes_forms) in
       let leads_lines : List Words =
       lines_of (λ number. lead_line circuit) 0 parts.body.leads ++ merges_lines in
@@ -550,7 +550,8 @@ module _ {circuit : Circuit} {tech : Tech} {parts : Parts}
       ∙ ap (λ shows. version_line parts.heading.version ∷ period_line parts.heading.period
       ∷ ((shows ++ lines_after circuit scale parts) ++ ([] ∷ []) ∷ []))
       (shown_first circuit parts.heading.version parts.shown.shown parts.shown.paths
-      ∙ ap (λ count. shown_line count ∷ drop 1 (period_show_lines parts.heading.version circuit
+      ∙ ap (λ count. period_shown_line count ∷ drop 1
+      (period_show_lines parts.heading.version circuit
       parts.shown.shown parts.shown.paths)) (sym is.count))) is.period
       (subst IsSmallCount (sym is.count) (small_shown parts.shown.shown is.shown.weights)) circuit
       tech None (subst (λ counted. HasFirstFault circuit scale (forms_of parts.heading.version

@@ -17,7 +17,7 @@ pub use Rattle.name_set.specs.RegisterNames.{register_names}
 pub use Rattle.report_text.specs.declared.fault.ReportFault.TheVariants.{BadLine, UnknownRegister, Missing, Extra, TooLarge, UnknownSignal, NoMemory}
 pub use Rattle.report_text.specs.declared.fault.ReportFault.{ReportFault}
 pub use Rattle.report_text.specs.declared.field.Flaw.{Flaw}
-pub use Rattle.report_text.specs.LineForms.{Form}
+pub use Rattle.report_text.specs.LineForms.{LineForm}
 pub use Rattle.report_text.specs.declared.field.Scale.{Scale}
 pub use Rattle.report_text.specs.declared.sections.Body.{Body}
 pub use Rattle.report_text.specs.declared.sections.Heading.{Heading}

@@ -1,6 +1,6 @@
 -- The fixed words and the forms of a report's lines. They are this project's choice.
 use Rattle.std.specs.Prelude.{Bool, List, [], codes, get_or, if◌then◌else◌, length, map, nat_le, pos, replicate, suc, zero, ℕ, ◌&&◌, ◌*◌, ◌++◌, ◌+◌, ◌-◌, ◌/◌, ◌==◌, ◌^◌, ◌∷◌}
-use Rattle.report_text.specs.Common.{Circuit, First, Second, Version, register_name, count_in, Form, Scale, position_or_len, range_with_len, bytes_eq}
+use Rattle.report_text.specs.Common.{Circuit, First, Second, Version, register_name, count_in, LineForm, Scale, position_or_len, range_with_len, bytes_eq}
 use Rattle.report_text.specs.LineForms as form
 use Rattle.report_text.specs.LineFields as field
 
@@ -44,7 +44,7 @@ has_points words = (length words == 5 + 2 * points_of words)
 
 -- the fields of a line of that form: a cycle says how many constraints it has, a path how many
 -- signals, where it is printed; there are none for a number of words that no node has
-abbrev pub fields_of : Circuit → Scale → Form → List (List ℕ) → List field.Field
+abbrev pub fields_of : Circuit → Scale → LineForm → List (List ℕ) → List field.Field
 fields_of circuit scale form.Version words = field.Word (codes "cts") ∷ field.Version ∷ []
 fields_of circuit scale form.Period words = field.Word (codes "period") ∷ field.Period ∷ []
 fields_of circuit scale form.Show words = if is_word words 0 (codes "floor")
@@ -72,18 +72,18 @@ fields_of circuit scale form.Total words =
     field.Word (codes "wire") ∷ field.Steps scale.grid (pos (10 ^ 36)) ∷ []
 
 -- each constraint of a cycle, in the second version with its path
-abbrev pub cycle_forms : Version → (count : ℕ) → List Form
+abbrev pub cycle_forms : Version → (count : ℕ) → List LineForm
 cycle_forms First count = replicate count form.Constraint
 cycle_forms Second zero = []
 cycle_forms Second (suc count) =
     form.Constraint ∷ form.Path ∷ cycle_forms Second count
 
 -- each lead, of which the first version has none
-abbrev pub lead_forms : Version → (count : ℕ) → List Form
+abbrev pub lead_forms : Version → (count : ℕ) → List LineForm
 lead_forms version count = map (λ number. form.Lead) (range_with_len 0 (count_in version count))
 
 -- the lines after what shows the period
-abbrev pub forms_after : Version → (registers : ℕ) → List Form
+abbrev pub forms_after : Version → (registers : ℕ) → List LineForm
 forms_after version registers = form.Count (codes "registers") registers
     ∷ map form.Register (range_with_len 0 registers) ++ lead_forms version registers
     ++ form.Count (codes "merges") (registers - 1)
@@ -92,6 +92,6 @@ forms_after version registers = form.Count (codes "registers") registers
     ∷ map form.Node (range_with_len 0 (2 * registers - 1)) ++ form.Total ∷ []
 
 -- all lines, with a cycle of so many constraints
-abbrev pub forms_of : Version → (cycle registers : ℕ) → List Form
+abbrev pub forms_of : Version → (cycle registers : ℕ) → List LineForm
 forms_of version cycle registers = form.Version ∷ form.Period ∷ form.Show
     ∷ cycle_forms version cycle ++ forms_after version registers

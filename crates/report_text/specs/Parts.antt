@@ -3,14 +3,15 @@ use Rattle.std.specs.Prelude.{All, List, Option, [], drop, length, map, neg_ℤ,
 use Rattle.report_text.specs.Common.{Fraction, Circuit, Point, Report, Version, Tech, Wire, count_in, HasSmallWeights, ShowsPeriodAmong, cycle_length, no_wire, origin, period_show_lines, version_line, period_line, IsSmallPeriod, grid_of, scheduled_length, Scale, Body, Heading, Parts, Shown, IsBelow}
 use Rattle.report_text.specs.LineForms as form
 use Rattle.report_text.specs.Forms.{cycle_forms}
-use Rattle.report_text.specs.Values.{IsSmallCount, shown_line, DenotesLead, DenotesTimed, SaysMerge, SaysNode, SaysSource, wire_line}
+use Rattle.report_text.specs.Values.{IsSmallCount, period_shown_line, DenotesLead, DenotesTimed, SaysMerge, SaysNode, SaysSource, wire_line}
 use Rattle.report_text.specs.Walks.{Left, Reads, DenotesLine, Counted, HasRows}
 
 -- the first three lines, which are read by any scale
 pub record HasHeading (circuit : Circuit) (old new : Left) (heading : Heading) : Type 0 where
   pub lines : (scale : Scale) → Reads circuit scale
       (form.Version ∷ form.Period ∷ form.Show ∷ [])
-      (version_line heading.version ∷ period_line heading.period ∷ shown_line heading.count ∷ [])
+      (version_line heading.version ∷ period_line heading.period ∷ period_shown_line heading.count
+      ∷ [])
       old new
   pub small : IsSmallPeriod heading.period
   pub count : IsSmallCount heading.count
@@ -21,7 +22,7 @@ pub record HasShown (circuit : Circuit) (scale : Scale) (version : Version) (cou
   pub lines : Reads circuit scale (cycle_forms version (unwrap_or count 0))
       (drop 1 (period_show_lines version circuit shown.shown shown.paths)) old new
   pub first : period_show_lines version circuit shown.shown shown.paths
-      ≡ shown_line count ∷ drop 1 (period_show_lines version circuit shown.shown shown.paths)
+      ≡ period_shown_line count ∷ drop 1 (period_show_lines version circuit shown.shown shown.paths)
   pub counted : cycle_length shown.shown ≡ unwrap_or count 0
   pub paths : length shown.paths ≡ count_in version (cycle_length shown.shown)
   pub among : ShowsPeriodAmong (length circuit.registers) shown.shown

@@ -8,22 +8,22 @@ use Rattle.report_text.specs.Fields.{LineHasFlaw}
 use Rattle.report_text.specs.Forms.{fields_of, forms_of, is_word}
 
 -- the words of a line: it is cut at each space, so a word may have no bytes
-abbrev pub words_of : List ℕ → List (List ℕ)
-words_of line = slice_split (λ byte. byte == 32) line
+abbrev pub spaced_words : List ℕ → List (List ℕ)
+spaced_words line = slice_split (λ byte. byte == 32) line
 
 -- the fault that a line has with a flaw
-abbrev pub unknown_on : form.Form → (line : ℕ) → ReportFault
+abbrev pub unknown_on : form.LineForm → (line : ℕ) → ReportFault
 unknown_on form.Path line = UnknownSignal line
 unknown_on form line = UnknownRegister line
 
-abbrev pub fault_of : form.Form → (line : ℕ) → Flaw → ReportFault
-fault_of form line Unknown = unknown_on form line
-fault_of form line Large = TooLarge line
-fault_of form line flaw = BadLine line
+abbrev pub flaw_fault : form.LineForm → (line : ℕ) → Flaw → ReportFault
+flaw_fault form line Unknown = unknown_on form line
+flaw_fault form line Large = TooLarge line
+flaw_fault form line flaw = BadLine line
 
 -- the first fault, or none, of a text whose lines from that number on are to have these forms: a
 -- line that is due is missing, has no line feed or has a flaw, or more lines stand there
-abbrev pub HasFirstFault : Circuit → Scale → List form.Form → (line : ℕ) → (text : List ℕ)
+abbrev pub HasFirstFault : Circuit → Scale → List form.LineForm → (line : ℕ) → (text : List ℕ)
     → Option ReportFault → Type 0
 HasFirstFault circuit scale [] line text fault =
     fault ≡ (if length text == 0 then None else Some (Extra line))
@@ -31,16 +31,16 @@ HasFirstFault circuit scale (due ∷ more) line text fault =
     MatchBool (length text == 0) (fault ≡ Some (Missing line))
     (MatchOption (position is_line_feed text) (fault ≡ Some (BadLine line))
     (λ end. (flaw : Option Flaw)
-    × LineHasFlaw circuit (fields_of circuit scale due (words_of (take end text)))
-    (words_of (take end text)) flaw
+    × LineHasFlaw circuit (fields_of circuit scale due (spaced_words (take end text)))
+    (spaced_words (take end text)) flaw
     × MatchOption flaw
     (HasFirstFault circuit scale more (line + 1) (drop (end + 1) text) fault)
-    (λ found. fault ≡ Some (fault_of due line found))))
+    (λ found. fault ≡ Some (flaw_fault due line found))))
 
 -- a word of a line of the text, and no bytes where there is none
 abbrev pub word_at : List ℕ → (line place : ℕ) → List ℕ
 word_at text line place =
-    get_or (words_of (get_or (slice_split is_line_feed text) line [])) place []
+    get_or (spaced_words (get_or (slice_split is_line_feed text) line [])) place []
 
 -- what the first three lines tell: the version, the steps, how many constraints the cycle has
 abbrev pub version_denoted : List ℕ → Version

@@ -17,9 +17,9 @@ pub record HasSmallLengths (report : Report) : Type 0 where
   pub total : IsBelow (10 ^ 36) report.total
 
 -- the line for what shows the period: how many constraints the cycle has, or the floor
-abbrev pub shown_line : Option ℕ → Words
-shown_line None = floor_line
-shown_line (Some count) = count_line (codes "cycle") count
+abbrev pub period_shown_line : Option ℕ → Words
+period_shown_line None = floor_line
+period_shown_line (Some count) = count_line (codes "cycle") count
 
 abbrev pub IsSmallCount : Option ℕ → Type 0
 IsSmallCount None = Unit {0}

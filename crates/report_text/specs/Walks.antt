@@ -1,12 +1,12 @@
 -- A line that is read word by word, a text line by line, and the rows that lines tell.
 use Rattle.std.specs.Prelude.{All, Err, IfOk, List, MatchBool, MatchOption, None, Ok, Option, Result, Some, [], drop, false, if◌then◌else◌, nat_le, length, map, position, take, ℕ, ◌++◌, ◌+◌, ◌<◌, ◌==◌, ◌∷◌, ◌≡◌, ◌≢◌, ◌≤◌}
-use Rattle.report_text.specs.Common.{is_line_feed, Circuit, Constraint, Second, HasSmallWeight, IsBetweenRegisters, pathed_lines, Words, count_line, text_of, BadLine, Missing, NoMemory, ReportFault, Flaw, Form, Scale, range_with_len, slice_split}
+use Rattle.report_text.specs.Common.{is_line_feed, Circuit, Constraint, Second, HasSmallWeight, IsBetweenRegisters, pathed_lines, Words, count_line, text_of, BadLine, Missing, NoMemory, ReportFault, Flaw, LineForm, Scale, range_with_len, slice_split}
 use Rattle.report_text.specs.LineForms as form
 use Rattle.report_text.specs.LineFields.{Field}
 use Rattle.report_text.specs.declared.field.Flaw.TheVariants as flaws
 use Rattle.report_text.specs.Fields.{LineHasFlaw}
 use Rattle.report_text.specs.Forms.{cycle_forms, fields_of}
-use Rattle.report_text.specs.ReportFaults.{HasFirstFault, fault_of, words_of}
+use Rattle.report_text.specs.ReportFaults.{HasFirstFault, flaw_fault, spaced_words}
 
 -- how many kinds of flaws are judged before that one
 abbrev pub rank : Option Flaw → ℕ
@@ -56,7 +56,7 @@ pub record Keeps {X : Type 0} (read : Result X Flaw) (given : X) (old new : Line
   pub value : IfOk read (λ value. given ≡ value)
 
 -- a whole line of that form is judged; where nothing is wrong and nothing is left, it says this
-pub record ReadsForm (circuit : Circuit) (scale : Scale) (form : Form) (Says : Words → Type 0)
+pub record ReadsForm (circuit : Circuit) (scale : Scale) (form : LineForm) (Says : Words → Type 0)
     (old new : LineLeft) : Type 0 where
   pub judged : (flaw : Option Flaw) → EndsIn circuit [] new flaw
       → EndsIn circuit (fields_of circuit scale form old.words) old flaw
@@ -76,28 +76,28 @@ pub record TakesLine (old : Left) (line : List ℕ) (new : Left) : Type 0 where
   pub number : new.line ≡ old.line + 1
 
 -- the words are a line of that form without a flaw
-abbrev pub IsFlawless : Circuit → Scale → Form → Words → Type 0
+abbrev pub IsFlawless : Circuit → Scale → LineForm → Words → Type 0
 IsFlawless circuit scale form words =
     LineHasFlaw circuit (fields_of circuit scale form words) words None
 
 -- these lines are taken without a flaw; so what is wrong with the rest is what is wrong with all
-pub record Reads (circuit : Circuit) (scale : Scale) (forms : List Form) (lines : List Words)
+pub record Reads (circuit : Circuit) (scale : Scale) (forms : List LineForm) (lines : List Words)
     (old new : Left) : Type 0 where
   pub text : old.text ≡ text_of lines ++ new.text
-  pub words : map words_of (slice_split is_line_feed old.text)
-      ≡ lines ++ map words_of (slice_split is_line_feed new.text)
+  pub words : map spaced_words (slice_split is_line_feed old.text)
+      ≡ lines ++ map spaced_words (slice_split is_line_feed new.text)
   pub number : new.line ≡ old.line + length forms
-  pub faults : (more : List Form) (fault : Option ReportFault)
+  pub faults : (more : List LineForm) (fault : Option ReportFault)
       → HasFirstFault circuit scale more new.line new.text fault
       → HasFirstFault circuit scale (forms ++ more) old.line old.text fault
 
 -- the fault is the first by these forms, whatever lines are to follow
-abbrev pub Stops : Circuit → Scale → List Form → Left → ReportFault → Type 0
-Stops circuit scale forms left fault = fault ≢ NoMemory → (more : List Form)
+abbrev pub Stops : Circuit → Scale → List LineForm → Left → ReportFault → Type 0
+Stops circuit scale forms left fault = fault ≢ NoMemory → (more : List LineForm)
     → HasFirstFault circuit scale (forms ++ more) left.line left.text (Some fault)
 
 -- the next line has these words, and is read by each scale by which it has no flaw
-pub record ReadsLine (circuit : Circuit) (scale : Scale) (form : Form) (words : Words)
+pub record ReadsLine (circuit : Circuit) (scale : Scale) (form : LineForm) (words : Words)
     (old new : Left) : Type 0 where
   pub some : 0 < length words
   pub flawless : IsFlawless circuit scale form words
@@ -105,16 +105,16 @@ pub record ReadsLine (circuit : Circuit) (scale : Scale) (form : Form) (words : 
       → Reads circuit other (form ∷ []) (words ∷ []) old new
 
 -- the next line is missing, has no line feed, or has a flaw by the form
-abbrev pub StopsLine : Circuit → Scale → Form → Left → ReportFault → Type 0
+abbrev pub StopsLine : Circuit → Scale → LineForm → Left → ReportFault → Type 0
 StopsLine circuit scale form left fault = fault ≢ NoMemory
     → MatchBool (length left.text == 0) (fault ≡ Missing left.line)
     (MatchOption (position is_line_feed left.text) (fault ≡ BadLine left.line)
     (λ end. (flaw : Flaw) × LineHasFlaw circuit
-    (fields_of circuit scale form (words_of (take end left.text)))
-    (words_of (take end left.text)) (Some flaw) × (fault ≡ fault_of form left.line flaw)))
+    (fields_of circuit scale form (spaced_words (take end left.text)))
+    (spaced_words (take end left.text)) (Some flaw) × (fault ≡ flaw_fault form left.line flaw)))
 
 -- the next line has no flaw by the form, and denotes this value
-pub record DenotesLine {X : Type 0} (circuit : Circuit) (scale : Scale) (form : Form)
+pub record DenotesLine {X : Type 0} (circuit : Circuit) (scale : Scale) (form : LineForm)
     (Denotes : Words → X → Type 0) (old new : Left) (value : X) : Type 0 where
   pub words : Words
   pub line : ReadsLine circuit scale form words old new
@@ -129,7 +129,7 @@ SayEach Says first (words ∷ lines) (row ∷ rows) =
 SayEach Says first lines rows = ⊥
 
 -- so many lines are read, which say these rows
-pub record HasRows {X : Type 0} (circuit : Circuit) (scale : Scale) (due : ℕ → Form)
+pub record HasRows {X : Type 0} (circuit : Circuit) (scale : Scale) (due : ℕ → LineForm)
     (Says : ℕ → Words → X → Type 0) (first count : ℕ) (old new : Left) (rows : List X)
     : Type 0 where
   pub lines : List Words
@@ -139,7 +139,7 @@ pub record HasRows {X : Type 0} (circuit : Circuit) (scale : Scale) (due : ℕ �
 
 -- a line says how many they are, and they follow
 pub record Counted {X : Type 0} (circuit : Circuit) (scale : Scale) (keyword : List ℕ)
-    (due : ℕ → Form) (Says : ℕ → Words → X → Type 0) (first count : ℕ) (old new : Left)
+    (due : ℕ → LineForm) (Says : ℕ → Words → X → Type 0) (first count : ℕ) (old new : Left)
     (rows : List X) : Type 0 where
   pub between : Left
   pub counted : ReadsLine circuit scale (form.Count keyword count)

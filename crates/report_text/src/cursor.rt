@@ -1,7 +1,7 @@
 //! What is left of a text that is read line by line.
 
 ghost use Rattle.std.specs.Prelude.{MatchBool, [], None, Some, if◌then◌else◌, ◌≡◌, ◌≢◌, ◌==◌, ℕ, List, map, position, IfOk, ◌<◌, length, IfErr};
-ghost use Rattle.report_text.specs.Vocabulary.{Extra, is_line_feed, words_of, Left, TakesLine, BadLine, Missing};
+ghost use Rattle.report_text.specs.Vocabulary.{Extra, is_line_feed, spaced_words, Left, TakesLine, BadLine, Missing};
 ghost use Rattle.report_text.specs.declared.fault.ReportFault.TheVariants as faults;
 
 use crate::fault::ReportFault;
@@ -57,7 +57,7 @@ impl<'a> Cursor<'a> {
     pub(crate) fn next_words(&mut self, alloc: Global) -> Result<Vec<&'a [u8]>, ReportFault>
         requires { self.old.line < 1000000 }
         ensures ok { IfOk result (λ words. (line : List ℕ) × TakesLine self.old line self.new
-            × (map (λ word. word.now) words.items ≡ words_of line)) }
+            × (map (λ word. word.now) words.items ≡ spaced_words line)) }
         ensures fault { IfErr result (λ fault. fault ≢ faults.NoMemory
             → MatchBool (length self.old.text == 0) (fault ≡ Missing self.old.line)
             ((position is_line_feed self.old.text ≡ None) × (fault ≡ BadLine self.old.line))) }
@@ -83,7 +83,7 @@ fn first_line_feed(text: &[u8]) -> Option<usize>
 
 // The words of a line.
 fn words_of(alloc: Global, line: &[u8]) -> Result<Vec<&[u8]>, NoMemory>
-    ensures { IfOk result (λ words. map (λ word. word.now) words.items ≡ words_of line.now) }
+    ensures { IfOk result (λ words. map (λ word. word.now) words.items ≡ spaced_words line.now) }
 {
     Ok(line.split(|byte| *byte == b' ').collect(alloc)?)
 }

@@ -1,7 +1,7 @@
 //! What the lines of a report's timing say.
 
 ghost use Rattle.std.specs.Prelude.{◌≡◌, ◌<◌, IfOk, All, length, map, replicate, if◌then◌else◌};
-ghost use Rattle.report_text.specs.Vocabulary.{IsBetweenRegisters, HasSmallWeight, signal_name, line_for, constraint_fields, ReadsForm, Takes, period_line, IsSmallPeriod, DenotesConstraint, DenotesPath, DenotesLead, DenotesTimed, version_line, shown_line, IsSmallCount};
+ghost use Rattle.report_text.specs.Vocabulary.{IsBetweenRegisters, HasSmallWeight, signal_name, line_for, constraint_fields, ReadsForm, Takes, period_line, IsSmallPeriod, DenotesConstraint, DenotesPath, DenotesLead, DenotesTimed, version_line, period_shown_line, IsSmallCount};
 ghost use Rattle.report_text.specs.LineFields as field;
 ghost use Rattle.report_text.specs.LineForms as form;
 
@@ -40,7 +40,7 @@ impl Line for Option<u32> {
     ghost due = { λ number. form.Show };
 
     ghost says = { λ circuit scale number words count.
-        (words ≡ shown_line count) × IsSmallCount count };
+        (words ≡ period_shown_line count) × IsSmallCount count };
 
     fn read(_rules: &Rules, _number: u32, scan: &mut Scan) -> Result<Option<u32>, NoMemory> {
         if scan.has_word(0, b"floor") {

@@ -13,7 +13,7 @@ use Rattle.topology_file.specs.declared.joining.Joining.{Joining}
 use Rattle.topology_file.specs.Entries.{is_entry, joins_open, merge_of, merges_of}
 use Rattle.topology_file.specs.Kept.{kept_merge}
 use Rattle.topology_file.specs.Taken.{HasTaken, IsOfOpen, TakesMerge}
-use Rattle.topology_file.specs.TopologyTexts.{entry_fault, fault_of}
+use Rattle.topology_file.specs.TopologyTexts.{topology_entry_fault, topology_line_fault}
 use Rattle.topology_file.proofs.OpenNodes.{fails_unless_merge, test_from_merge}
 
 module _ (sinks : ℕ) (joining : Joining) (earlier : List (List ℕ)) (line : List ℕ) (number : ℕ)
@@ -29,14 +29,18 @@ module _ (sinks : ℕ) (joining : Joining) (earlier : List (List ℕ)) (line : L
       ∙ ap (λ words. entries_in earlier ++ words ∷ []) read
 
   -- what is wrong with the line is wrong with its entry
-  of_entry : fault_of sinks earlier line ≡ entry_fault joining.sinks number merges entry
-  of_entry = ap (λ n. fault_of n earlier line) (sym has.sinks_are) ∙ ap (λ words. if has_words words
-      then entry_fault joining.sinks (length earlier + 1) (merges_of (entries_in earlier)) words
+  of_entry : topology_line_fault sinks earlier line
+      ≡ topology_entry_fault joining.sinks number merges entry
+  of_entry = ap (λ n. topology_line_fault n earlier line) (sym has.sinks_are) ∙ ap
+      (λ words. if has_words words
+      then topology_entry_fault joining.sinks (length earlier + 1) (merges_of
+      (entries_in earlier)) words
       else None) read
       ∙ ap (λ b. if b
-      then entry_fault joining.sinks (length earlier + 1) (merges_of (entries_in earlier)) entry
+      then topology_entry_fault joining.sinks (length earlier + 1) (merges_of
+      (entries_in earlier)) entry
       else None) some
-      ∙ (λ i. entry_fault joining.sinks (sym number_is i) (sym has.merges_are i) entry)
+      ∙ (λ i. topology_entry_fault joining.sinks (sym number_is i) (sym has.merges_are i) entry)
 
   module _ (due : ℕ) (some_due : (length merges + 1 < joining.sinks)
       × (due ≡ joining.sinks + length merges))
@@ -63,7 +67,8 @@ module _ (sinks : ℕ) (joining : Joining) (earlier : List (List ℕ)) (line : L
 
     -- what is wrong with such an entry, by whether it joins two open nodes
     by_nodes : (opens : Bool) → joins_open joining.sinks merges merge ≡ opens
-        → fault_of sinks earlier line ≡ (if not opens then Some (NotOpen number) else None)
+        → topology_line_fault sinks earlier line ≡ (if not opens then Some
+        (NotOpen number) else None)
     by_nodes opens is =
         let few : nat_le joining.sinks (length merges + 1) ≡ false =
         let below = some_due.0 in grind (arith, nat_tests) in
@@ -106,7 +111,7 @@ module _ (sinks : ℕ) (joining : Joining) (earlier : List (List ℕ)) (line : L
 
     -- one of others is a fault
     pub not_open : (IsOfOpen joining kept → ⊥)
-        → fault_of sinks earlier line ≡ Some (NotOpen number)
+        → topology_line_fault sinks earlier line ≡ Some (NotOpen number)
     not_open other = by_nodes false (fails_unless_merge joining.sinks merges merge
         (λ joins. other (opens joins)))
 
@@ -147,7 +152,8 @@ module _ (sinks : ℕ) (joining : Joining) (earlier : List (List ℕ)) (line : L
 
       -- its merge is taken in
       pub merge_taken : (new : Joining) → TakesMerge joining new kept
-          → (fault_of sinks earlier line ≡ None) × HasTaken sinks new (earlier ++ line ∷ [])
+          → (topology_line_fault sinks earlier line ≡ None) × HasTaken sinks new (earlier ++ line
+          ∷ [])
       merge_taken new takes = (
         by_nodes true (test_from_merge joining.sinks merges merge
             (subst (IsMerge joining.sinks merges) same joins)),

@@ -11,33 +11,27 @@ use Rattle.topology_file.specs.Entries.{is_entry, joins_open, merge_of, merges_o
 
 -- what is wrong with an entry in a line of this number, after these merges: that it is too many
 -- comes first, then its form and the node that it makes, and then the nodes that it joins
-abbrev pub entry_fault : (sinks number : ℕ) → List Merge → List (List ℕ) → Option TopologyFault
-entry_fault sinks number merges entry =
+abbrev pub topology_entry_fault : (sinks number : ℕ) → List Merge → List (List ℕ)
+    → Option TopologyFault
+topology_entry_fault sinks number merges entry =
     if nat_le sinks (length merges + 1) then Some (Extra number)
     else if not (is_entry (sinks + length merges) entry) then Some (BadLine number)
     else if not (joins_open sinks merges (merge_of entry)) then Some (NotOpen number)
     else None
 
 -- what is wrong with a line after these lines, if anything is: nothing with a blank one
-abbrev pub fault_of : (sinks : ℕ) → (earlier : List (List ℕ)) → (line : List ℕ)
+abbrev pub topology_line_fault : (sinks : ℕ) → (earlier : List (List ℕ)) → (line : List ℕ)
     → Option TopologyFault
-fault_of sinks earlier line =
+topology_line_fault sinks earlier line =
     if has_words (words_in line)
-    then entry_fault sinks (length earlier + 1) (merges_of (entries_in earlier)) (words_in line)
+    then topology_entry_fault sinks (length earlier + 1) (merges_of (entries_in earlier))
+    (words_in line)
     else None
 
 -- the topology of so many sinks that a text tells, or its first fault: where no line has one, that
 -- the text ends before all sinks are joined
 abbrev pub topology_in : (text : List ℕ) → (sinks : ℕ) → Result Topology TopologyFault
-topology_in text sinks = unless_faulty (first_fault (fault_of sinks) text)
+topology_in text sinks = unless_faulty (first_fault (topology_line_fault sinks) text)
     (if length (entries_of text) + 1 == sinks
     then Ok (record { merges = merges_of (entries_of text) })
     else Err (Missing (length (lines_of text) + 1)))
-
--- the text is a topology file of so many sinks, and tells this topology
-abbrev pub AcceptsTopology : (text : List ℕ) → (sinks : ℕ) → Topology → Type 0
-AcceptsTopology text sinks topology = topology_in text sinks ≡ Ok topology
-
--- the text has this fault
-abbrev pub RefusesTopology : (text : List ℕ) → (sinks : ℕ) → TopologyFault → Type 0
-RefusesTopology text sinks fault = topology_in text sinks ≡ Err fault

@@ -84,7 +84,7 @@ impl Joining {
 }
 
 impl<'a> LineFormat<'a> for Joining {
-    ghost use Rattle.topology_file.specs.TopologyTexts.{fault_of};
+    ghost use Rattle.topology_file.specs.TopologyTexts.{topology_line_fault};
     ghost use Rattle.topology_file.specs.Taken.{HasTaken};
     ghost use Rattle.topology_file.specs.declared.fault.TopologyFault.TheVariants.{NoMemory};
 
@@ -92,7 +92,7 @@ impl<'a> LineFormat<'a> for Joining {
 
     ghost no_memory = { NoMemory };
 
-    ghost fault_of = { λ start. fault_of start.sinks };
+    ghost fault_of = { λ start. topology_line_fault start.sinks };
 
     ghost has_read = { λ start. HasTaken start.sinks };
 

@@ -1,7 +1,7 @@
 //! A line of a report that is read by the form that is due.
 
 ghost use Rattle.std.specs.Prelude.{◌≡◌, ◌<◌, ℕ, length, IfOk, IfErr};
-ghost use Rattle.report_text.specs.Vocabulary.{DenotesPath, Words, count_line, fault_of, unknown_on, UnknownRegister, ReadsForm, DenotesLine, ReadsLine, StopsLine, Circuit, Form, Scale};
+ghost use Rattle.report_text.specs.Vocabulary.{DenotesPath, Words, count_line, flaw_fault, unknown_on, UnknownRegister, ReadsForm, DenotesLine, ReadsLine, StopsLine, Circuit, LineForm, Scale};
 ghost use Rattle.report_text.specs.LineForms as form;
 
 use crate::cursor::Cursor;
@@ -15,7 +15,7 @@ use cts_base::{Listed, NoMemory};
 /// What a line of a report says. Lines of one form may be numbered.
 pub(crate) trait Line: Drop {
     /// The form of a line of that number. What it names are registers.
-    ghost due: { ℕ → Form };
+    ghost due: { ℕ → LineForm };
 
     /// The words of a line of that number say this.
     ghost says: { Circuit → Scale → ℕ → Words → Self → Type 0 };
@@ -95,7 +95,8 @@ pub(crate) fn read_count(
 
 // The fault that a line has with a flaw, or with a name that is unknown.
 fn fault_of(unknown: ReportFault, line: u32, flaw: Flaw) -> ReportFault
-    ensures { (form : Form) → unknown ≡ unknown_on form line → result ≡ fault_of form line flaw }
+    ensures { (form : LineForm) → unknown ≡ unknown_on form line → result
+        ≡ flaw_fault form line flaw }
 {
     match flaw {
         Flaw::Form | Flaw::Unfit => ReportFault::BadLine(line),

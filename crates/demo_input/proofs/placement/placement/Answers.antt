@@ -1,5 +1,5 @@
 use Rattle.std.proofs.Common.{ℕ, ◌++◌, ◌∙◌, length, codes, length-append, ap, arith}
-use Rattle.demo_input.specs.Lines.{lines_below}
+use Rattle.demo_input.specs.Lines.{lines_for_each}
 use Rattle.demo_input.specs.PlacementLines.{place_line, placement_text}
 use Rattle.demo_input.proofs.LineLemmas.{last_line}
 use Rattle.demo_input.proofs.LineLengths.{places_within}
@@ -10,7 +10,7 @@ unfolding placement_text
 returns-clause-value c =
     let header = codes "UCLA pl 1.0\n" in
     c.from_vec.ensures
-    ∙ last_line (lines_below (place_line c.args.seed) c.args.registers) header
+    ∙ last_line (lines_for_each (place_line c.args.seed) c.args.registers) header
     (codes "CLK 500 500 : N /FIXED") c.extend_from_slice.new.self.items
     c.push_places.new.out.items c.extend_from_slice-2.new.self.items
     (c.in_ok-extend_from_slice.ensures.items

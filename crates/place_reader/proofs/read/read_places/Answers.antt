@@ -1,4 +1,4 @@
-use Rattle.place_reader.proofs.Vocabulary.{inl, inr, sym, ap, ◌∙◌, Err, err_from_is_err_and, NoMemory, place_of, with_source}
+use Rattle.place_reader.proofs.Vocabulary.{inl, inr, sym, ap, ◌∙◌, Err, err_from_is_err_and, NoMemory, placed_at, with_source}
 use Rattle.cts_base.proofs.Told.{told_err, told_ok}
 use Rattle.place_reader.proofs.ToldPlaces.{kept_told, line_refused}
 use Rattle.place_reader.proofs.read.read_places.Goals as goal
@@ -25,7 +25,7 @@ returns-in_err-registers c =
     rw (p.1, p.2)
     (elim (told_err NoMemory _ _ c.in_err-registers.ensures) [
       | inl found ↦ inl (sym (told ∙ ap (λ points. with_source points
-          (place_of c.read_lines.new.format.placed c.args.source.now)) found))
+          (placed_at c.read_lines.new.format.placed c.args.source.now)) found))
       | inr memory ↦ inr (ap Err memory)
     ])
 

@@ -1,7 +1,7 @@
-use Rattle.place_reader.specs.Placements.{place_of, register_nodes}
+use Rattle.place_reader.specs.Placements.{placed_at, register_nodes}
 use Rattle.place_reader.proofs.ToldPlaces.{ArePoints}
 use Rattle.place_reader.proofs.read.register_places.Given as goal
 
 abbrev pub invariant-loop-register : goal.invariant-loop-register
 invariant-loop-register l =
-    ArePoints (place_of l.placed) (register_nodes l.circuit l.host) l.register l.points
+    ArePoints (placed_at l.placed) (register_nodes l.circuit l.host) l.register l.points

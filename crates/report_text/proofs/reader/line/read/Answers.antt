@@ -1,4 +1,4 @@
-use Rattle.report_text.proofs.Vocabulary.{map, refl, sym, ap, ◌∙◌, arith, fault_of}
+use Rattle.report_text.proofs.Vocabulary.{map, refl, sym, ap, ◌∙◌, arith, flaw_fault}
 use Rattle.report_text.proofs.ScanLemmas.{line_says, line_stops, some_words}
 use Rattle.report_text.proofs.reader.line.read.Goals as goal
 
@@ -19,5 +19,5 @@ returns-clause-fault g c =
     line_stops _ c.as_slice.ensures.value c.in_ok-words.ensures.ok.2 c.of-scan.ensures
     c.in_ok-words.ensures.ok.1 c.in_ok-line.ensures.read _ _
     (c.in-Some.ensures.judged c.args.rules.now.circuit.now) (c.fault_of.ensures due
-    (sym (c.in_ok-line.ensures.named c.line-at.result)) ∙ ap (λ line. fault_of due line
+    (sym (c.in_ok-line.ensures.named c.line-at.result)) ∙ ap (λ line. flaw_fault due line
     c.in-Some.flaw) c.line-at.ensures)

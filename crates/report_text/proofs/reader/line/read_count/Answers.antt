@@ -1,4 +1,4 @@
-use Rattle.report_text.proofs.Vocabulary.{◌≡◌, refl, ap, ◌∙◌, subst, count_line, fault_of, ReadsForm, ReadsLine}
+use Rattle.report_text.proofs.Vocabulary.{◌≡◌, refl, ap, ◌∙◌, subst, count_line, flaw_fault, ReadsForm, ReadsLine}
 use Rattle.report_text.specs.LineForms as form
 use Rattle.report_text.proofs.ScanLemmas.{form_read, line_says, line_stops, takes_then}
 use Rattle.report_text.proofs.reader.line.read_count.Goals as goal
@@ -29,5 +29,5 @@ returns-clause-fault c =
     (λ are _. are) in
     line_stops _ c.as_slice.ensures.value c.in_ok-words.ensures.ok.2 c.of-scan.ensures
     c.in_ok-words.ensures.ok.1 reads _ _ (c.in-Some.ensures.judged circuit) (c.fault_of.ensures
-    (form.Count c.args.word.now c.args.count) refl ∙ ap (λ line. fault_of
+    (form.Count c.args.word.now c.args.count) refl ∙ ap (λ line. flaw_fault
     (form.Count c.args.word.now c.args.count) line c.in-Some.flaw) c.line-at.ensures)

@@ -1,4 +1,4 @@
-use Rattle.report_text.proofs.Vocabulary.{map, refl, ap, ◌∙◌, fault_of}
+use Rattle.report_text.proofs.Vocabulary.{map, refl, ap, ◌∙◌, flaw_fault}
 use Rattle.report_text.specs.LineForms as form
 use Rattle.report_text.proofs.ScanLemmas.{line_says, line_stops}
 use Rattle.report_text.proofs.reader.line.read_path.Goals as goal
@@ -15,4 +15,4 @@ returns-clause-fault c =
     line_stops _ c.as_slice.ensures.value c.in_ok-words.ensures.ok.2 c.of-scan.ensures
     c.in_ok-words.ensures.ok.1 c.in_ok-path.ensures _ _
     (c.in-Some.ensures.judged c.args.rules.now.circuit.now) (c.fault_of.ensures form.Path refl
-    ∙ ap (λ line. fault_of form.Path line c.in-Some.flaw) c.line-at.ensures)
+    ∙ ap (λ line. flaw_fault form.Path line c.in-Some.flaw) c.line-at.ensures)
