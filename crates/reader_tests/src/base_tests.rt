@@ -11,7 +11,6 @@ fn expect_lines(rt: &impl Abort, text: &str, wanted: &[(u32, &str)]) {
         };
         expect_same(rt, found.number, *number, &text);
         expect_same(rt, found.text, line.as_bytes(), &text);
-        expect_same(rt, found.content, before_comment(line.as_bytes()), &text);
     }
     assert!(rt; walk.next().is_none(), "after {text:?}");
 }
@@ -85,6 +84,39 @@ fn leaves_out_comments(rt: HostRuntime) {
     .as_slice()
     {
         expect_before_comment(&rt, line, wanted);
+    }
+}
+
+fn expect_content(rt: &impl Abort, text: &str, wanted: &str, word: &str) {
+    assert!(rt; text.len() <= 16_777_216);
+    let Some(line) = lines(text.as_bytes()).next() else {
+        panic!(rt; "no line in {text:?}");
+    };
+    expect_same(rt, line.content, wanted.as_bytes(), &text);
+    expect_same(
+        rt,
+        line.words().next().unwrap_or(b""),
+        word.as_bytes(),
+        &text,
+    );
+}
+
+// A text, what of its first line is before a comment, and the first word there.
+const CONTENTS: [(&str, &str, &str); 8] = [
+    ("a = b\nc # d\n", "a = b", "a"),
+    (" a = b # c\r\nd\n", " a = b ", "a"),
+    ("a\r\n#b\n", "a", "a"),
+    ("a\r#\n", "a\r", "a\r"),
+    ("a#b#c", "a", "a"),
+    ("#a\nb\n", "", ""),
+    ("\r\n#", "", ""),
+    ("a", "a", "a"),
+];
+
+#[test]
+fn cuts_the_comment_of_a_line(rt: HostRuntime) {
+    for (text, wanted, word) in &CONTENTS {
+        expect_content(&rt, text, wanted, word);
     }
 }
 
