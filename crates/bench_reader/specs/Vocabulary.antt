@@ -1,12 +1,12 @@
 -- The words that the contracts of this crate have in common.
 pub use Rattle.std.specs.Iterator.{YieldsFirstRef, item_count, YieldsFirstBy}
-pub use Rattle.std.specs.List.{filter_map, list_all, list_any, prefix_len}
+pub use Rattle.std.specs.List.{filter_map, list_all, prefix_len}
 pub use Rattle.std.specs.Option.{option_map, option_to_list}
-pub use Rattle.std.specs.Str.{bytes_eq, str_eq_ignore_ascii_case}
+pub use Rattle.std.specs.Str.{str_eq_ignore_ascii_case}
 pub use Rattle.cts_base.specs.LineFormats.{IsFaultOf, first_fault}
 pub use Rattle.cts_base.specs.Lines.{lines_of}
 pub use Rattle.cts_base.specs.Words.{is_blank}
-pub use Rattle.cts_model.specs.Vocabulary.{registers_of, number_of, statement_of, uses_of, is_register, is_gate, is_short, tokens_of, inputs_of, more_inputs_of, HasNoHost, form_of, declaration_of, names_of, Word, Close, Equals, is_name_byte, mark_of}
+pub use Rattle.cts_model.specs.Vocabulary.{registers_of, number_of, statement_of, uses_of, is_short, tokens_of, HasNoHost, form_of, declaration_of, names_of, Word, Close, Equals, is_name_byte, mark_of}
 pub use Rattle.cts_model.specs.netlist.Statements.{Blank}
 pub use Rattle.indexmap.specs.IndexSet.{insert_key}
 pub use Rattle.bench_reader.specs.Faults.{has_kind, use_fault, bench_line_fault, netlist_fault}
@@ -18,4 +18,3 @@ pub use Rattle.bench_reader.specs.Tallies.{tally_of, with_names}
 pub use Rattle.bench_reader.specs.Uses.{AreNumbered, IsUseFault}
 pub use Rattle.bench_reader.specs.View.{said_by, token_of}
 pub use Rattle.bench_reader.specs.declared.fault.BenchFault.{BenchFault}
-pub use Rattle.bench_reader.specs.declared.fault.Which.{Which}

@@ -1,5 +1,10 @@
 ghost use Rattle.std.specs.Prelude.{◌≡◌, ◌≤◌, ◌+◌, List, ℕ, [], ◌∷◌, ◌++◌, None, Some, length, MatchResult, if◌then◌else◌};
-ghost use Rattle.bench_reader.specs.Vocabulary.{IsFaultOf, is_register, is_gate, statement_of, bench_line_fault, BenchFault, Which, said_by};
+ghost use Rattle.cts_base.specs.LineFormats.{IsFaultOf};
+ghost use Rattle.cts_model.specs.Vocabulary.{is_register, is_gate, statement_of};
+ghost use Rattle.bench_reader.specs.Faults.{bench_line_fault};
+ghost use Rattle.bench_reader.specs.declared.fault.BenchFault.{BenchFault};
+ghost use Rattle.bench_reader.specs.declared.fault.Which.{Which};
+ghost use Rattle.bench_reader.specs.View.{said_by};
 
 use crate::kinds::{kind_of, may_have};
 use crate::names::Names;

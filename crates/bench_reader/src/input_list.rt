@@ -1,5 +1,10 @@
 ghost use Rattle.std.specs.Prelude.{◌≡◌, ◌<◌, ◌+◌, ◌^◌, ℕ, List, length};
-ghost use Rattle.bench_reader.specs.Vocabulary.{YieldsFirstRef, item_count, list_all, option_map, is_short, tokens_of, inputs_of, more_inputs_of, token_words, tally_of, with_names};
+ghost use Rattle.std.specs.Iterator.{YieldsFirstRef, item_count};
+ghost use Rattle.std.specs.List.{list_all};
+ghost use Rattle.std.specs.Option.{option_map};
+ghost use Rattle.cts_model.specs.Vocabulary.{is_short, tokens_of, inputs_of, more_inputs_of};
+ghost use Rattle.bench_reader.specs.Inputs.{token_words};
+ghost use Rattle.bench_reader.specs.Tallies.{tally_of, with_names};
 
 use crate::tally::Tally;
 use crate::token::{Token, Tokens};

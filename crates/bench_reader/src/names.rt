@@ -1,5 +1,7 @@
 ghost use Rattle.std.specs.Prelude.{◌≡◌, ◌≤◌, ◌<◌, List, ℕ, [], ◌∷◌, ◌++◌, map, length, false, not, nat_le, IfOk, OnErr, IsTrue};
-ghost use Rattle.bench_reader.specs.Vocabulary.{list_any, bytes_eq, number_of};
+ghost use Rattle.std.specs.List.{list_any};
+ghost use Rattle.std.specs.Str.{bytes_eq};
+ghost use Rattle.cts_model.specs.Vocabulary.{number_of};
 
 use cts_base::NoMemory;
 use indexmap::IndexSet;

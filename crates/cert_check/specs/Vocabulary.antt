@@ -1,9 +1,8 @@
 -- The words that the contracts of this crate have in common.
 pub use Rattle.std.proofs.Props.{props}
-pub use Rattle.cts_model.specs.Vocabulary.{IsOfSize, IsWithinBounds, ShowsWhatItSays, IsShown, ShowsLeast, cycle_of, HoldsTogether, next_place, is_gate, is_valid, IsGate, IsBelow, AreApart, IsDrawn, IsStraight, pieces, total, IsPointBelow, IsSmallWire, GivesWeight, IsUvBelow, HasSmallWeight, HasSmallWeights, HasTreeBounds, IsBetweenRegisters, IsSmallLead, IsSmallPeriod, leads_prop, size_prop, tree_prop, weights_prop, count_of, IsLedBy, IsTight, depth_of, lead_at, LeadsAmong, arrival_of, IsOfCircuit, IsSmallPair, Captures, IsPath, Launches, Reads, total_count, total_weight, GivesPeriod, IsFromFloor, AreWiresDown, embedding_of, total_length, total_wire, number_at, IsTopology, source_of, rotated, apart, rotated_distance, span, ShowsAmong, ShowsMerge, ShowsSource, numbers_below, root_of}
+pub use Rattle.cts_model.specs.Vocabulary.{IsOfSize, IsWithinBounds, ShowsWhatItSays, IsShown, ShowsLeast, cycle_of, HoldsTogether, next_place, is_gate, is_valid, IsGate, IsBelow, AreApart, IsDrawn, IsStraight, pieces, total, IsPointBelow, IsSmallWire, GivesWeight, IsUvBelow, HasSmallWeight, IsBetweenRegisters, IsSmallLead, IsSmallPeriod, count_of, IsLedBy, IsTight, depth_of, lead_at, LeadsAmong, arrival_of, IsOfCircuit, IsSmallPair, Captures, IsPath, Launches, Reads, total_count, total_weight, GivesPeriod, IsFromFloor, AreWiresDown, embedding_of, total_length, total_wire, number_at, IsTopology, source_of, rotated, apart, rotated_distance, span, ShowsAmong, ShowsMerge, ShowsSource, numbers_below, root_of}
 pub use Rattle.cts_model.specs.declared.report.Version.TheVariants.{Second}
 pub use Rattle.cts_model.specs.table.Tables.{IsWithin}
-pub use Rattle.gate_order.specs.LevelParts.{IsLevelsOf}
 pub use Rattle.path_delays.specs.JoinedPairs.{AreDelaysBetween}
 pub use Rattle.cert_check.specs.ComparedSlacks.{AreOneSlack, HasSlackRoom, IsFromZero}
 pub use Rattle.cert_check.specs.CyclePlaces.{AreTailsBefore}

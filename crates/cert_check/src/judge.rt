@@ -1,5 +1,6 @@
 ghost use Rattle.std.specs.Prelude.{◌≡◌, ◌≤◌, ◌^◌, All, length};
-ghost use Rattle.cert_check.specs.Vocabulary.{IsBelow, IsUvBelow, HasSmallWeight, HasSmallWeights, HasTreeBounds, IsBetweenRegisters, IsOfSize, IsSmallLead, cycle_of, IsSmallPeriod, leads_prop, size_prop, tree_prop, weights_prop, IsSmallSink};
+ghost use Rattle.cts_model.specs.Vocabulary.{IsBelow, IsUvBelow, HasSmallWeight, HasSmallWeights, HasTreeBounds, IsBetweenRegisters, IsOfSize, IsSmallLead, cycle_of, IsSmallPeriod, leads_prop, size_prop, tree_prop, weights_prop};
+ghost use Rattle.cert_check.specs.SmallSinks.{IsSmallSink};
 
 use cts_model::{Constraint, Problem, Report, Sink, Uv};
 

@@ -1,5 +1,8 @@
 ghost use Rattle.std.specs.Prelude.{◌≡◌, ◌<◌, ◌≤◌, false, IsTrue, drop, length};
-ghost use Rattle.critical_cycle.specs.Vocabulary.{AreSmallConstraints, CanTry, shown_prop, IsShown};
+ghost use Rattle.cts_model.specs.Vocabulary.{AreSmallConstraints};
+ghost use Rattle.critical_cycle.specs.Measures.{CanTry};
+ghost use Rattle.critical_cycle.specs.OneShown.{shown_prop};
+ghost use Rattle.critical_cycle.specs.ShownRatios.{IsShown};
 
 use crate::cycle::Cycle;
 use crate::measure::Measure;

@@ -9,22 +9,21 @@ pub use Rattle.answer_texts.specs.MarginTexts.{IsMarginText}
 pub use Rattle.answer_texts.specs.MoveTexts.{IsMovesText, IsWiresText}
 pub use Rattle.answer_texts.specs.PeriodTexts.{IsPeriodText}
 pub use Rattle.answer_texts.specs.ScheduleTexts.{IsScheduleText}
-pub use Rattle.answer_texts.specs.SynthTexts.{IsSynthText, IsEmbedText, synthesis_lines, synthesis_status}
+pub use Rattle.answer_texts.specs.SynthTexts.{IsSynthText, IsEmbedText}
 pub use Rattle.answer_texts.specs.ZeroTexts.{IsZeroText}
 pub use Rattle.cert_check.specs.Verdicts.{IsVerdict}
 pub use Rattle.command_line.specs.Commands.{is_period, numeral_value, is_number_within, HasValidTables, HasValidValues}
 pub use Rattle.cts_base.specs.Fractions.{fraction_text}
 pub use Rattle.cts_engine.specs.SessionOutcomes.{IsGrid, IsSessionOf}
 pub use Rattle.cts_io.specs.Device.{Rose}
-pub use Rattle.cts_model.specs.Vocabulary.{IsLoop, text_of, JoinsMoreThan, IsMarginPeriod, IsTopology, IsOfSize, IsWithinBounds, IsShown}
+pub use Rattle.cts_model.specs.Vocabulary.{IsLoop, JoinsMoreThan, IsMarginPeriod, IsTopology, IsOfSize, IsWithinBounds, IsShown}
 pub use Rattle.cts_model.specs.declared.problem.Problem.{Problem}
-pub use Rattle.cts_model.specs.declared.tree.Topology.{Topology}
 pub use Rattle.cts_model.specs.table.Tables.{IsWithin}
 pub use Rattle.failure_lines.specs.Failures.{status_of, failure_line, Reports}
 pub use Rattle.failure_lines.specs.Refusals.{place_failure_of}
 pub use Rattle.failure_lines.specs.declared.failure.Failure.{Failure}
 pub use Rattle.failure_lines.specs.declared.file_kind.FileKind.{FileKind}
-pub use Rattle.outcomes.specs.SynthesisOutcomes.{IsOutcomeWith, BeginsLowest, IsOutcome, IsShownOutcome}
+pub use Rattle.outcomes.specs.SynthesisOutcomes.{BeginsLowest, IsOutcome, IsShownOutcome}
 pub use Rattle.cts_program.specs.Answers.{is_ending, IsUnshown, problem_kinds, IsAnswer, IsRefusal}
 pub use Rattle.cts_program.specs.DemoFiles.{demo_texts}
 pub use Rattle.cts_program.specs.Documents.{Tell, RefusesFirst, Means, Refuses, DiffersFromFirst}

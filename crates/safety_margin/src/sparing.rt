@@ -7,11 +7,8 @@ use relaxation::Gains;
 use schedule::least_arrivals;
 use std::alloc::Global;
 
-/// The least schedule that spares a margin at a period.
-///
-/// # Errors
-///
-/// There is no memory for the lists, 32 bytes for each register and 4 for each constraint.
+/// The least schedule that spares a margin at a period. It takes 32 bytes for each register and 4
+/// for each constraint.
 pub(crate) fn sparing_schedule(
     alloc: Global,
     registers: usize,

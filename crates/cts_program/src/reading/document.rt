@@ -32,11 +32,7 @@ pub trait Document {
     fn file_kind(&self) -> FileKind
         ensures { result ≡ kind self.now };
 
-    /// What the bytes of the file tell.
-    ///
-    /// # Errors
-    ///
-    /// The first fault of the file, or want of memory.
+    /// What the bytes of the file tell, or the first fault that they have.
     fn read(self, alloc: Global, bytes: &[u8]) -> Result<Self::Value, Failure>
         requires ready { ready self }
         requires short { IsShortFile bytes.now }
