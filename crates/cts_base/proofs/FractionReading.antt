@@ -2,7 +2,6 @@
 use Rattle.cts_base.proofs.Vocabulary.{◌≡◌, ◌<◌, ◌^◌, ◌↔◌, ℕ, ℤ, pos, negsuc, ◌*ℤ◌, ◌≤ℤ◌, nat_abs, inl, inr, List, Result, Ok, Err, IfOk, MatchResult, of_z, to_z, refl, sym, ap, ◌∙◌, subst, arith, w128, ints, IsErrOf, IsBelow, IsLowest, fraction_text, SpellsQuotient, kept_size, HaveSmallSizes, IsLargeQuotient, IsNoFraction, RefusesFraction, Fraction, NumberFault, NotNumber, TooFine, TooLarge}
 use Rattle.std.proofs.Props.{props}
 use Rattle.cts_base.proofs.GreatestDivisors.{same_factor}
-use Rattle.cts_base.proofs.OneNumberText.{one_fraction_text}
 use Rattle.cts_base.proofs.OneSpelling.{one_quotient, quotient_text_spelled, fraction_spelled}
 
 -- ---- equal fractions
@@ -144,16 +143,6 @@ judged_spelled text r denoted fraction small small' same =
     at (Err TooFine) denoted spells = absurd denoted
     at (Err TooLarge) denoted spells =
         absurd (small_is text fraction.num fraction.den spells (small, small') denoted)
-
--- a text spells one fraction
-pub one_spelled_fraction : (fraction other : Fraction) → HaveSmallSizes fraction.num fraction.den
-    → HaveSmallSizes other.num other.den
-    → fraction_text fraction.num fraction.den ≡ fraction_text other.num other.den → fraction ≡ other
-one_spelled_fraction fraction other small small' same =
-    let both = one_fraction_text fraction.num fraction.den other.num other.den
-    (few_digits fraction.num small.0) (few_digits fraction.den small.1)
-    (few_digits other.num small'.0) (few_digits other.den small'.1) same in
-    same_fraction fraction other both.0 both.1
 
 -- ---- from the numbers that are read
 

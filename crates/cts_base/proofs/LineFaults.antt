@@ -1,5 +1,5 @@
 -- A walk over the lines of a text, to the first that is faulty.
-use Rattle.cts_base.proofs.Vocabulary.{◌≡◌, ◌∙◌, ◌+◌, ◌++◌, ◌∷◌, [], ℕ, List, length, Option, Some, None, refl, sym, subst, ap, ◌<◌, ◌≤◌, ◌^◌, arith, append-nil, append_assoc, enumerate_from, slice_split, strip_carriage_return, nat_tests, length-append, length-map, length_push, length-slice_split, count_by-le-length, lines_of, numbered_lines, is_line_feed, without_empty_last, first_fault, first_fault_after}
+use Rattle.cts_base.proofs.Vocabulary.{◌≡◌, ◌∙◌, ◌+◌, ◌++◌, ◌∷◌, [], ℕ, List, length, Option, Some, None, refl, sym, subst, ap, ◌<◌, ◌≤◌, ◌^◌, arith, append-nil, append_assoc, enumerate_from, slice_split, strip_carriage_return, nat_tests, length-append, length-map, length_push, length-slice_split, count_by-le-length, lines_of, is_line_feed, without_empty_last, first_fault, first_fault_after}
 use Rattle.std.specs.Option.{option_or}
 
 -- no line is left out but an empty last one
@@ -65,17 +65,6 @@ by_fault fault_of passed later fault line =
     option_or fault (first_fault_after fault_of (passed ++ line ∷ []) later)
 
 module _ {Fault : Type 0} {fault_of : List (List ℕ) → List ℕ → Option Fault} {text : List ℕ} where
-  -- at the start
-  pub passed_first : {left : List (ℕ × List ℕ)} → left ≡ numbered_lines text
-      → ArePassed fault_of text left 1 []
-  passed_first {left} all = record {
-    later = lines_of text;
-    split = refl;
-    left_is = all;
-    next_is = refl;
-    rest = refl;
-  }
-
   module _ {left more : List (ℕ × List ℕ)} {next number : ℕ} {line : List ℕ}
       {passed : List (List ℕ)} (walk : ArePassed fault_of text left next passed)
       (some : left ≡ (number, line) ∷ more) where

@@ -1,5 +1,5 @@
 -- What is read of a quotient's text, at its first slash or without one.
-use Rattle.cts_base.proofs.Vocabulary.{◌≡◌, ◌<◌, ◌+◌, ℕ, suc, zero, ℤ, pos, negsuc, ◌≤ℤ◌, true, false, Option, Some, None, IfSome, IsNone, inl, inr, List, [], ◌∷◌, ◌++◌, take, drop, get_or, length, refl, sym, ap, ◌∙◌, subst, arith, drop-cons, position, nat_tests, ints, fails_before_first, take-length, take-append-drop, is_slash, SpellsWhole, SpellsQuotient, kept_size}
+use Rattle.cts_base.proofs.Vocabulary.{◌≡◌, ◌<◌, ◌+◌, ℕ, suc, zero, ℤ, pos, ◌≤ℤ◌, true, false, Option, Some, None, IfSome, IsNone, inl, inr, List, [], ◌∷◌, ◌++◌, take, drop, get_or, length, refl, sym, ap, ◌∙◌, subst, arith, drop-cons, position, nat_tests, fails_before_first, take-length, take-append-drop, is_slash, SpellsWhole, SpellsQuotient, kept_size}
 use Rattle.std.proofs.lemmas.List.Quantifiers.{position-Some}
 use Rattle.cts_base.specs.declared.number.quotient.Quotient.{Quotient}
 use Rattle.cts_base.proofs.OneNumberText.{HasNoSlash, one_split, slash_differs}
@@ -95,13 +95,3 @@ pub none_one : (text : List ℕ) (r : Option Quotient) → HasNoSlash text
 none_one text r first none is num den (inl one) = none is num one.1
 none_one text r first none is num den (inr (some, (prefix, back, split, above, below))) =
     slash_differs text prefix back first split
-
--- ---- numbers kept at the bound
-
-pub kept_two : (value : ℤ) → pos 2 ≤ℤ value → pos 2 ≤ℤ kept_size value
-kept_two (pos n) some = omega (arith, ints, some)
-kept_two (negsuc n) some = absurd (omega (arith, ints, some))
-
-pub two_kept : (value : ℤ) → pos 2 ≤ℤ kept_size value → pos 2 ≤ℤ value
-two_kept (pos n) some = omega (arith, ints, some)
-two_kept (negsuc n) some = absurd (omega (arith, ints, some))

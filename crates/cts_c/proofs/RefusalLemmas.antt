@@ -1,12 +1,12 @@
 -- Texts that are accepted aren't refused, and what a refusal leaves of a call.
-use Rattle.cts_c.proofs.Vocabulary.{◌≡◌, ℕ, List, inr, refl, JoinsMoreThan, table_accepted, table_fine, AreBothRefused, AreRefused, FailsFor, refusal_failure, pair_failure, Failure, Refused, NoMemory}
+use Rattle.cts_c.proofs.Vocabulary.{◌≡◌, ℕ, List, refl, JoinsMoreThan, table_accepted, table_fine, FailsFor, refusal_failure, pair_failure, Failure, Refused, NoMemory}
 use Rattle.cts_model.specs.declared.circuit.Circuit.{Circuit}
 use Rattle.cts_model.specs.declared.tech.Tech.{Tech}
 use Rattle.bench_reader.proofs.OneFault.{no_fault}
 use Rattle.path_delays.specs.JoinedPairs.{ShowsTooMany}
 use Rattle.path_delays.specs.declared.fault.PairFault.{PairFault}
 use Rattle.path_delays.specs.declared.fault.PairFault.TheVariants as pairs
-use Rattle.cts_engine.specs.Accepted.{TellBoth, IsCircuitRefusal, IsProblemRefusal}
+use Rattle.cts_engine.specs.Accepted.{TellBoth, IsCircuitRefusal}
 use Rattle.cts_engine.specs.declared.refusals.Refusal.{Refusal}
 use Rattle.cts_engine.specs.declared.refusals.Refusal.TheVariants as refusals
 
@@ -22,17 +22,6 @@ module _ (bench tech : List ℕ) where
       (table_accepted bench tech tell.bare.signals delays tell.accepts.signals tell.delays) has)
   both_unrefused circuit delays tell (refusals.Places fault) has = absurd has
   both_unrefused circuit delays tell refusals.NoMemory has = refl
-
-  -- a refusal of two texts, and of three
-  pub both_refused : (refusal : Refusal) → IsCircuitRefusal bench tech refusal
-      → FailsFor (AreBothRefused bench tech) (refusal_failure refusal)
-  both_refused refusals.NoMemory cause = tt
-  both_refused refusal cause = inr (refusal, (λ e. cc e), cause)
-
-  pub all_refused : (pl : List ℕ) (refusal : Refusal) → IsProblemRefusal bench tech pl refusal
-      → FailsFor (AreRefused bench tech pl) (refusal_failure refusal)
-  all_refused pl refusals.NoMemory cause = tt
-  all_refused pl refusal cause = inr (refusal, (λ e. cc e), cause)
 
 -- a circuit that has no outcome joins too many pairs, or memory ran out
 pub many_pairs : (circuit : Circuit) (fault : PairFault) → ShowsTooMany circuit fault

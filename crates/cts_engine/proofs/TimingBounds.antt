@@ -1,6 +1,5 @@
 -- The times of a report are within its bounds and of its circuit's size.
 use Rattle.cts_engine.proofs.Vocabulary.{◌≡◌, ◌<◌, ◌≤◌, ◌^◌, ℕ, ℤ, List, length, get_or, refl, sym, subst, arith, All, ints, get_or_default, All-nil, Fraction, Circuit, Constraint, PeriodShow, Cycle, Floor, Lead, Zero, Tight, Tech, ArePathsOf, IsConstraintOf, EachLead, IsLead, depth_of, lead_at, IsPeriodShow, IsBelow, HasSmallWeight, HasSmallWeights, IsSmallLead, LeadsAmong, ShowsPeriodAmong, cycle_length, head_within, tail_within, HasSmallPairs, AreTreeArrivals}
-use Rattle.cts_engine.specs.CyclePaths.{IsShownBy}
 use Rattle.cts_engine.proofs.CycleLengths.{cycle_some, cycle_within, few_registers, plain_paths}
 use Rattle.cts_engine.proofs.DelayLemmas.{weight_small}
 
@@ -26,12 +25,6 @@ module _ {circuit : Circuit} {tech : Tech} (delays : HasSmallPairs circuit tech)
         (critical.of_circuit place default here),
   )
   cycle_small period Floor floor = tt
-
-  -- they are the circuit's
-  pub shown_by : (period : Fraction) (shown : PeriodShow)
-      → IsPeriodShow circuit tech period shown → IsShownBy (IsConstraintOf circuit tech) shown
-  shown_by period (Cycle cycle) critical = critical.of_circuit
-  shown_by period Floor floor = tt
 
   -- so are their registers
   pub cycle_among : (period : Fraction) (shown : PeriodShow)

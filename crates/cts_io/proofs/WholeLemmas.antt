@@ -1,12 +1,8 @@
--- What pieces make together, and counts that rise.
-use Rattle.std.proofs.Common.{ℕ, ◌≡◌, ◌+◌, ◌<◌, ◌≤◌, Option, Some, None, List, [], ◌++◌, length, take, drop, refl, ap, ◌∙◌, arith, append_assoc, length-append}
+-- What pieces make together.
+use Rattle.std.proofs.Common.{ℕ, ◌≡◌, ◌+◌, ◌<◌, Option, Some, None, List, [], ◌++◌, length, take, drop, refl, ap, ◌∙◌, arith, append_assoc, length-append}
 use Rattle.std.proofs.lemmas.List.{take-append-drop}
 use Rattle.std.proofs.Math.Seq.{take-append_seam, drop-append-add}
-use Rattle.cts_io.specs.Device.{Rose, appended, WritesPrefix, Takes}
-
--- a count that rose last has rose since any earlier time
-pub Rose-since : (before between now : ℕ) → before ≤ between → Rose between now → Rose before now
-Rose-since before between now later rose = omega arith
+use Rattle.cts_io.specs.Device.{appended, WritesPrefix, Takes}
 
 -- two pieces at the end are one
 pub appended-appended : (denoted : Option (List ℕ)) (first next : List ℕ)

@@ -73,7 +73,3 @@ module _ (circuit : Circuit) (tech : Tech) (constraints : List Constraint)
   pub tails_within : All (λ constraint. constraint.tail < length circuit.registers) constraints
   tails_within = All-weaker (IsConstraintOf circuit tech) _
       (tail_within circuit tech) constraints of_circuit
-
-  pub heads_within : All (λ constraint. constraint.head < length circuit.registers) constraints
-  heads_within = All-weaker (IsConstraintOf circuit tech) _
-      (head_within circuit tech) constraints of_circuit

@@ -228,13 +228,6 @@ pub sinks_below-append : (sinks : List Sink) (merges more : List Merge) (node : 
 sinks_below-append sinks merges more node made =
     ap (filter_map (slice_get sinks)) (numbers_below-append (length sinks) merges more node made)
 
--- so they are known from the merges before a place
-pub sinks_below-take : (sinks : List Sink) (merges : List Merge) (place node : ℕ)
-    → node < length sinks + length (take place merges)
-    → sinks_below sinks (take place merges) node ≡ sinks_below sinks merges node
-sinks_below-take sinks merges place node made =
-    ap (filter_map (slice_get sinks)) (numbers_below-take (length sinks) merges place node made)
-
 -- below the node that the last merge makes are the sinks of the two that it joins
 pub sinks_below-push : (sinks : List Sink) (merges : List Merge) (merge : Merge)
     → sinks_below sinks (merges ++ merge ∷ []) (length sinks + length merges)

@@ -1,5 +1,5 @@
 -- The walk over the merges from a sink up to the root.
-use Rattle.move_session.proofs.Vocabulary.{◌≡◌, inl, inr, ℕ, zero, ◌+◌, ◌-◌, ◌^◌, ◌<◌, ◌≤◌, min, true, false, List, [], length, take, get_or, Some, slice_get, refl, sym, ap, subst, ◌∙◌, arith, Contains, count_by, range_with_len, get_or-take, length-take, take_all, Sink, Merge, IsLive, IsMerge, IsTopology, Joins, numbers_below, merge_at, merge_here, numbers_below-sink, HoldsMerge, HoldsSinks, IsMerged, IsRenewed, IsFit, WorkState, merges_renewed, sinks_renewed, IsMergedBeside, IsStep, JoinsAt, is_above, merges_above}
+use Rattle.move_session.proofs.Vocabulary.{◌≡◌, inl, inr, ℕ, zero, ◌+◌, ◌-◌, ◌^◌, ◌<◌, ◌≤◌, min, true, false, List, [], length, take, get_or, Some, slice_get, refl, sym, ap, subst, ◌∙◌, arith, Contains, count_by, range_with_len, get_or-take, length-take, take_all, Sink, Merge, IsLive, IsMerge, IsTopology, Joins, numbers_below, merge_at, merge_here, numbers_below-sink, HoldsMerge, HoldsSinks, IsRenewed, IsFit, WorkState, merges_renewed, sinks_renewed, IsMergedBeside, IsStep, JoinsAt, is_above, merges_above}
 use Rattle.std.specs.Cmp.{nat_eq_equiv}
 use Rattle.std.proofs.lemmas.Bool.{cases_eq, cases_lt, eqb-true, false_from_ne_true}
 use Rattle.std.proofs.lemmas.List.FromFn.{get_or-range_with_len, length-range_with_len}
@@ -49,15 +49,7 @@ module _ (sinks : List Sink) (merges : List Merge) (register : ℕ) where
         renewals = omega (arith, fit.renewals, none);
       }
 
-  -- past the last merge all is held
-  pub way_merged : {node : ℕ} {old work : WorkState} → IsOnWay (length merges) node old work
-      → IsMerged sinks merges work
-  way_merged way = record {
-    count = way.count;
-    of_sinks = way.of_sinks;
-    of_merges = λ place made. way.of_merges place made (λ past. absurd (omega (arith, made, past)));
-  }
-
+  -- past the last merge each merge above the sink is renewed once
   pub way_counted : {node : ℕ} {old work : WorkState} → IsOnWay (length merges) node old work
       → work.renewals
       ≡ min (old.renewals + merges_above (length sinks) merges register) (2 ^ 64 - 1)

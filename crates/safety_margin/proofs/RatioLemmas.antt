@@ -1,5 +1,5 @@
 -- The greatest ratio of a list at a period: where the search begins, and what it excludes.
-use Rattle.safety_margin.proofs.Vocabulary.{◌≡◌, ℕ, suc, ◌+◌, ◌≤◌, ◌^◌, ℤ, pos, negsuc, neg_ℤ, ◌+ℤ◌, ◌-ℤ◌, ◌*ℤ◌, ◌≤ℤ◌, Bool, true, false, if◌then◌else◌, List, [], ◌∷◌, length, get_or, arith, mul-le-mul_left, ints, Fraction, Constraint, AreSmallConstraints, count_of, IsBelow, Measure, IsCycle, total_count, total_weight, CanTry, ForbidsRatios, SatisfiesRatio, IsSmallRatio, HasNoCycle, Spares, IsMarginPeriod, IsBelowAll, IsMeasureAt, up, down}
+use Rattle.safety_margin.proofs.Vocabulary.{ℕ, ◌+◌, ◌≤◌, ◌^◌, ℤ, pos, negsuc, neg_ℤ, ◌+ℤ◌, ◌-ℤ◌, ◌*ℤ◌, ◌≤ℤ◌, Bool, true, false, if◌then◌else◌, List, [], ◌∷◌, length, get_or, arith, mul-le-mul_left, ints, Fraction, Constraint, AreSmallConstraints, count_of, IsBelow, Measure, IsCycle, total_count, total_weight, CanTry, SatisfiesRatio, IsSmallRatio, HasNoCycle, Spares, IsMarginPeriod, IsBelowAll, IsMeasureAt, up, down}
 use Rattle.safety_margin.proofs.SparedCycles.{cycle_among_spares}
 
 -- a ratio below all can be tried
@@ -66,13 +66,3 @@ no_cycle registers constraints period first measure small range at below satisfi
     ends : (w : ℤ) (k n : ℕ) → 1 ≤ n
         → ((pos 0 *ℤ w) +ℤ (pos 1 *ℤ pos n)) ≤ℤ (pos 0 *ℤ pos k) → ⊥
     ends w k n more sum = omega (arith, ints)
-
--- no cycle never counts
-pub always_counts : (period : Fraction) (measure : Measure) (cycle : List Constraint)
-    → IsMeasureAt period measure → ForbidsRatios measure cycle → ⊥
-always_counts period measure [] at forbids = forbids.is_cycle.closed
-always_counts period measure (step ∷ steps) at forbids =
-    none (length steps) (rw at.every_is at forbids.counts)
-  where
-    none : (n : ℕ) → suc n ≡ 0 → ⊥
-    none n is = omega arith

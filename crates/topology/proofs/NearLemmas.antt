@@ -195,11 +195,6 @@ lower_from s p q e f ordered other_ordered = search (arith, cases_lt, lt-ltb, le
 -- ---- the search
 
 module _ {live : Live} {owner : ℕ} where
-  -- before the first node
-  pub look_starts : (IsPassed : ℕ → Type 0) (least : Option Pair)
-      → ((place : ℕ) → ¬ IsPassed place) → IsLooked live owner IsPassed least least
-  look_starts IsPassed least none = search arith
-
   -- one node alone, whose pair is kept or not
   pub look_keeps : (node : ℕ) (old new found : Option Pair) → IsCheaperOf old found new
       → ((pair : Pair) → (found ≡ Some pair) ↔ IsKeptWith live owner node pair)
