@@ -1,6 +1,5 @@
 mod Vocabulary
 mod MostDelayedPairs
-mod FirstPairs
 mod ListedPeriods
 mod PairListLemmas
 mod SlackLemmas

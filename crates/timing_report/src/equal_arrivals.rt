@@ -1,5 +1,5 @@
-ghost use Rattle.std.specs.Prelude.{◌≡◌, ◌<◌, int_lt, if◌then◌else◌, length, All, MatchOption, find, slice_index_or};
-ghost use Rattle.timing_report.specs.Vocabulary.{Circuit, PairDelay, IsZeroSkew, ListsPairs, IsSmallPair, HasSmallDelays, IsMostDelayed, IsZeroSkewOf};
+ghost use Rattle.std.specs.Prelude.{◌≡◌, ◌^◌, int_lt, All};
+ghost use Rattle.timing_report.specs.Vocabulary.{IsBelow, Circuit, PairDelay, IsZeroSkew, ListsPairs, IsSmallPair, HasSmallDelays, IsZeroSkewOf};
 
 use cts_base::Listed;
 use cts_model::{PairDelay, Tech, ZeroSkew};
@@ -21,49 +21,31 @@ fn zero_skew_of(pairs: &[PairDelay], tech: &Tech) -> ZeroSkew
     requires { All IsSmallPair pairs.now }
     ensures { IsZeroSkewOf tech.now pairs.now result }
 {
-    if let Some(pair) = first_too_quick(pairs, tech.hold) {
-        return ZeroSkew::Fails { pair };
-    }
-    let Some(pair) = most_delayed(pairs) else {
+    let Some(first) = pairs.first() else {
         return ZeroSkew::Floor { value: tech.floor };
     };
-    let value = pair.greatest + tech.setup;
+    let mut most = *first;
+    for pair in pairs {
+        if is_less(pair.least, tech.hold) {
+            return ZeroSkew::Fails { pair: *pair };
+        }
+        if is_less(most.greatest, pair.greatest) {
+            most = *pair;
+        }
+    }
+    let value = most.greatest + tech.setup;
     if value <= tech.floor {
         ZeroSkew::Floor { value: tech.floor }
     } else {
-        ZeroSkew::Setup { value, pair }
+        ZeroSkew::Setup { value, pair: most }
     }
 }
 
-// The first pair whose least delay is below the hold time.
-fn first_too_quick(pairs: &[PairDelay], hold: i128) -> Option<PairDelay>
-    ensures { result ≡ find (λ pair. int_lt pair.least hold) pairs.now }
+// Whether a small number is less than another, by their 64 bits.
+fn is_less(one: i128, other: i128) -> bool
+    requires one { IsBelow (2 ^ 63) one }
+    requires other { IsBelow (2 ^ 63) other }
+    ensures { result ≡ int_lt one other }
 {
-    pairs.iter().copied().find(|pair| pair.least < hold)
-}
-
-// The pair with the greatest delay, and of several the first.
-fn most_delayed(pairs: &[PairDelay]) -> Option<PairDelay>
-    ensures { MatchOption result (length pairs.now ≡ 0) (IsMostDelayed pairs.now) }
-{
-    let mut most = 0;
-    for place in 0..pairs.len() {
-        most = more_delayed(pairs, most, place);
-    }
-    pairs.get(most).copied()
-}
-
-// The place of the pair with the greater delay, and the first where both have the same.
-fn more_delayed(pairs: &[PairDelay], first: usize, second: usize) -> usize
-    requires first { first < length pairs.now }
-    requires second { second < length pairs.now }
-    ensures { (default : PairDelay)
-        → result ≡ (if int_lt (slice_index_or pairs.now first default).greatest
-        (slice_index_or pairs.now second default).greatest then second else first) }
-{
-    if pairs[first].greatest < pairs[second].greatest {
-        second
-    } else {
-        first
-    }
+    (one as i64) < other as i64
 }
