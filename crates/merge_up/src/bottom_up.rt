@@ -1,5 +1,5 @@
 ghost use Rattle.std.specs.Prelude.{◌≡◌, ◌≤◌, ◌+◌, ◌-◌, ◌^◌, min, length};
-ghost use Rattle.merge_up.specs.Vocabulary.{AreTreeSinks, IsTopology, IsMerged, IsUnsettled};
+ghost use Rattle.merge_up.specs.Vocabulary.{AreTreeSinks, IsTopology, HoldsSinks, IsFit, IsMerged, IsUnsettled};
 
 use crate::nodes::Nodes;
 use crate::work::Work;
@@ -17,10 +17,7 @@ pub fn merge(work: &mut Work, sinks: &[Sink], topology: &Topology)
     ensures renewals { work.new.renewals
         ≡ min (work.old.renewals + length topology.now.merges) (2 ^ 64 - 1) }
 {
-    work.begin(sinks.len());
-    for register in 0..sinks.len() {
-        work.set_sink(register as u32, sinks[register]);
-    }
+    set_sinks(work, sinks);
     let merges = topology.merges.as_slice();
     for place in 0..merges.len() {
         let nodes = Nodes {
@@ -32,5 +29,22 @@ pub fn merge(work: &mut Work, sinks: &[Sink], topology: &Topology)
         let first = nodes.kept_ends(merge.first);
         let second = nodes.kept_ends(merge.second);
         work.hold(place, first.joined(second));
+    }
+}
+
+// From here on the work is of these sinks, with their reaches and regions, and holds no merge.
+fn set_sinks(work: &mut Work, sinks: &[Sink])
+    requires sinks { AreTreeSinks sinks.now }
+    requires room { length sinks.now ≤ work.old.room }
+    ensures count { work.new.sinks ≡ length sinks.now }
+    ensures sinks { HoldsSinks sinks.now work.new }
+    ensures room { work.new.room ≡ work.old.room }
+    ensures settled { IsUnsettled work.new }
+    ensures renewals { work.new.renewals ≡ work.old.renewals }
+    ensures fit { IsFit work.new }
+{
+    work.begin(sinks.len());
+    for register in 0..sinks.len() {
+        work.set_sink(register as u32, sinks[register]);
     }
 }

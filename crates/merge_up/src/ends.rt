@@ -1,5 +1,5 @@
-ghost use Rattle.std.specs.Prelude.{◌≡◌, ℕ, ℤ, ◌+ℤ◌, ◌∷◌, [], ◌++◌, List, Some, slice_get};
-ghost use Rattle.merge_up.specs.Vocabulary.{Sink, IsBelow, IsMultipleOf, IsEnd, pair_of};
+ghost use Rattle.std.specs.Prelude.{◌≡◌, ℕ, ℤ, ◌+ℤ◌, ◌∷◌, [], ◌++◌, ◌*◌, ◌^◌, List, Some, slice_get};
+ghost use Rattle.merge_up.specs.Vocabulary.{Sink, IsBelow, IsMultipleOf, IsTreeSink, IsEnd, AreEnds, ShowsMerge, HasExtremeSides, extremes_of, pair_of, spread};
 
 use crate::end::End;
 use crate::side::Side;
@@ -20,10 +20,6 @@ pub struct Ends {
 }
 
 impl Ends {
-    ghost use Rattle.cts_model.specs.Vocabulary.{IsMultipleOf, ShowsMerge, IsTreeSink};
-    ghost use Rattle.tilted_rect.specs.Extremes.{HasExtremeSides, spread};
-    ghost use Rattle.merge_up.specs.Sides.{AreEnds, extremes_of};
-
     /// The ends of a sink alone.
     pub(crate) fn of(register: u32, sink: Sink) -> Ends
         requires { IsTreeSink sink }
@@ -89,8 +85,6 @@ impl Ends {
         }
     }
 }
-
-ghost use Rattle.std.specs.Prelude.{◌*◌, ◌^◌};
 
 // The further of two.
 fn further(one: End, other: End) -> End

@@ -1,4 +1,4 @@
-ghost use Rattle.std.specs.Prelude.{◌≡◌, length};
+ghost use Rattle.std.specs.Prelude.{◌≡◌, ◌<◌, ◌+◌, ◌⊎◌, ℕ, IfSome, IsNone, length};
 ghost use Rattle.cts_model.specs.Vocabulary.{AreTreeSinks, IsTopology};
 
 use crate::end::End;
@@ -19,10 +19,7 @@ pub(crate) struct Nodes<'a> {
 }
 
 impl Nodes<'_> {
-    ghost use Rattle.std.specs.Prelude.{◌<◌, ◌+◌, ◌⊎◌, ℕ, IfSome, IsNone};
-    ghost use Rattle.cts_model.specs.Vocabulary.{numbers_below};
-    ghost use Rattle.merge_up.specs.Merging.{HoldsMerge, KeepsEnds};
-    ghost use Rattle.merge_up.specs.Sides.{AreEnds, IsEnd, IsSoFar, far_to};
+    ghost use Rattle.merge_up.specs.Vocabulary.{numbers_below, HoldsMerge, KeepsEnds, AreEnds, IsEnd, IsSoFar, far_to};
 
     /// The furthest sinks of a node, as they are kept.
     pub(crate) fn kept_ends(&self, node: u32) -> Ends

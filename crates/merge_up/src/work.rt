@@ -40,15 +40,7 @@ impl Model for Work {
 }
 
 impl Work {
-    ghost use Rattle.cts_model.specs.declared.place.Point.{Point};
-    ghost use Rattle.cts_model.specs.declared.place.Sink.{Sink};
-    ghost use Rattle.cts_model.specs.declared.tree.Merge.{Merge};
-    ghost use Rattle.cts_model.specs.Vocabulary.{IsUvBelow, IsUvMultipleOf, AreTreeSinks, IsTreeSink, IsTopology, numbers_below};
-    ghost use Rattle.tilted_rect.specs.Rects.{Holds};
-    ghost use Rattle.merge_up.specs.Merging.{HoldsJoined, IsFresh, IsRenewed, IsSinkSet, IsNodeSettled, IsSourcePlaced};
-    ghost use Rattle.merge_up.specs.Sides.{AreEnds};
-    ghost use Rattle.merge_up.specs.Views.{cut};
-    ghost use Rattle.merge_up.specs.Works.{IsFit, IsSettled};
+    ghost use Rattle.merge_up.specs.Vocabulary.{Point, Sink, Merge, IsUvBelow, IsUvMultipleOf, AreTreeSinks, IsTreeSink, IsTopology, numbers_below, Holds, HoldsJoined, IsFresh, IsRenewed, IsSinkSet, IsNodeSettled, IsSourcePlaced, AreEnds, cut, IsFit, IsSettled};
 
     /// Room for that many sinks. No later call takes memory.
     ///

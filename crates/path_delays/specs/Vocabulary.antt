@@ -20,7 +20,7 @@ pub use Rattle.path_delays.specs.Networks.{gate_sums, AreInputs, AreAllReads, Ar
 pub use Rattle.path_delays.specs.NumberSets.{has_number}
 pub use Rattle.path_delays.specs.SumParts.{AreWithin, delay_limit, no_sums, some_sums, either_sums, merged_sums, sums_through, AreBounded}
 pub use Rattle.path_delays.specs.WalkParts.{IsRoomFor, HasRanksOf, HasReachBetween, ReachesEach, sums_to, HasReach, HaveReachBetween}
-pub use Rattle.path_delays.specs.Walking.{HaveReachedUpTo}
+pub use Rattle.path_delays.specs.Walking.{HaveReachedUpTo, IsSpreadBelow}
 pub use Rattle.path_delays.specs.WindowParts.{AreBelow, AreCaptures, AreLaunched, ArePassed, IsGateWindow, either_window, start_window, sums_in, sums_of, window_at, window_limit, merged_windows, window_after}
 pub use Rattle.path_delays.specs.Windows.{AreWindows, IsSmallSchedule, IsWindowBelow}
 pub use Rattle.path_delays.specs.declared.lanes.Lanes.{Lanes}

@@ -1,5 +1,5 @@
 ghost use Rattle.std.specs.Prelude.{◌≡◌, ◌<◌, ◌≤◌, ◌+◌, ◌-◌, ℕ, false, None, All, IfOk, IsTrue, length, slice_index_or};
-ghost use Rattle.path_delays.specs.Vocabulary.{IsLevelsOf, has_number, HasReach, HaveReachBetween, IsRoomFor, sums_to, IsNetworkOf, HasReachRoom, HaveReachedUpTo};
+ghost use Rattle.path_delays.specs.Vocabulary.{IsLevelsOf, has_number, HasReach, HaveReachBetween, IsRoomFor, sums_to, IsNetworkOf, HasReachRoom, HaveReachedUpTo, IsCleared, IsSpreadBelow};
 
 use crate::lanes::{Block, LANES, Lane, block_end};
 use crate::launching::{launched, start_sums};
@@ -145,14 +145,7 @@ impl Reach {
         ensures room { HasReachRoom network.now self.new }
     {
         self.clear();
-        let sums = start_sums(from.tech);
-        for lane in 0..from.registers.len() {
-            let register = from.registers[lane] as usize;
-            for signal in launched(from.circuit, network.inputs.as_slice(), register) {
-                self.mark(Lane { number: lane }, *signal, sums);
-                self.hand_on(network, *signal);
-            }
-        }
+        self.launch_all(network, from);
         let mut rank = 1;
         while let Some(next) = self.waiting.take_lowest(rank) {
             if next > top {
@@ -160,6 +153,39 @@ impl Reach {
             }
             self.hand_on(network, network.order[next as usize - 1]);
             rank = next + 1;
+        }
+    }
+
+    // What each of the registers launches hands on its sums.
+    fn launch_all(&mut self, network: &Network, from: &Launches<'_>)
+        requires network { IsNetworkOf from.now.circuit.now from.now.tech.now network.now }
+        requires room { HasReachRoom network.now self.old }
+        requires clear { IsCleared self.old }
+        ensures launched { IsSpreadBelow from.now.circuit.now from.now.tech.now network.now
+            from.now.registers.now (length from.now.registers.now) 1 self.new }
+        ensures room { HasReachRoom network.now self.new }
+    {
+        for lane in 0..from.registers.len() {
+            self.launch(network, from, Lane { number: lane });
+        }
+    }
+
+    // What the register of a lane launches hands on its sums.
+    fn launch(&mut self, network: &Network, from: &Launches<'_>, lane: Lane)
+        requires network { IsNetworkOf from.now.circuit.now from.now.tech.now network.now }
+        requires room { HasReachRoom network.now self.old }
+        requires lane { lane.number < length from.now.registers.now }
+        requires launched { IsSpreadBelow from.now.circuit.now from.now.tech.now network.now
+            from.now.registers.now lane.number 1 self.old }
+        ensures launched { IsSpreadBelow from.now.circuit.now from.now.tech.now network.now
+            from.now.registers.now (lane.number + 1) 1 self.new }
+        ensures room { HasReachRoom network.now self.new }
+    {
+        let sums = start_sums(from.tech);
+        let register = from.registers[lane.number] as usize;
+        for signal in launched(from.circuit, network.inputs.as_slice(), register) {
+            self.mark(lane, *signal, sums);
+            self.hand_on(network, *signal);
         }
     }
 }

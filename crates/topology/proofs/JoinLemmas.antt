@@ -37,10 +37,9 @@ sink_added sinks register sink old new cluster here alone held added = record {
 }
 
 -- all sinks are live before the first merge
-pub sinks_live : (sinks : List Sink) (register : ℕ) (live : Live) → register ≡ length sinks
-    → AreFirstSinks sinks register live → AreLive sinks [] live
-sinks_live sinks register live all held =
-    search (arith, add-zero, unjoined_there, node_within, All-nil)
+pub sinks_live : (sinks : List Sink) (live : Live) → AreFirstSinks sinks (length sinks) live
+    → AreLive sinks [] live
+sinks_live sinks live held = search (arith, add-zero, unjoined_there, node_within, All-nil)
 
 -- ---- two clusters are merged
 

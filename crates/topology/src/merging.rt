@@ -1,5 +1,5 @@
 ghost use Rattle.std.specs.Prelude.{◌≡◌, ◌+◌, ◌<◌, ◌^◌, List, [], length, IfOk, IfSome, IsNone};
-ghost use Rattle.topology.specs.Vocabulary.{Sink, IsGreedy, AreTreeSinks, Pair, AreKept, IsCheapestPair, IsMerging, IsPair, IsSwept};
+ghost use Rattle.topology.specs.Vocabulary.{Sink, IsGreedy, AreTreeSinks, Pair, AreFirstSinks, AreKept, IsCheapestPair, IsMerging, IsPair, IsSwept};
 
 use crate::axis::Axis;
 use crate::ordered::Ordered;
@@ -49,16 +49,26 @@ fn swept(
     requires merges { merges.old ≡ [] }
     ensures { IfOk result (λ clusters. IsMerging sinks.now merges.new clusters.live queue.new) }
 {
-    let mut clusters = Ordered::new(alloc, Axis::sparsest(sinks));
-    for sink in sinks {
-        clusters = clusters.add(Cluster::of(*sink))?;
-    }
+    let mut clusters = sink_clusters(alloc, sinks)?;
     let mut node = 0;
     while node < clusters.count() {
         clusters = sweep(clusters, queue, merges, node)?;
         node += 1;
     }
     clusters.live.early = clusters.count();
+    Ok(clusters)
+}
+
+// A cluster for each sink alone, in order.
+fn sink_clusters(alloc: Global, sinks: &[Sink]) -> Result<Ordered, NoMemory>
+    requires { AreTreeSinks sinks.now }
+    ensures { IfOk result
+        (λ clusters. AreFirstSinks sinks.now (length sinks.now) clusters.live) }
+{
+    let mut clusters = Ordered::new(alloc, Axis::sparsest(sinks));
+    for sink in sinks {
+        clusters = clusters.add(Cluster::of(*sink))?;
+    }
     Ok(clusters)
 }
 

@@ -1,27 +1,18 @@
-use Rattle.merge_up.proofs.Vocabulary.{length, arith, numbers_below, first_made, merge_at, merge_here, second_made, slice_get-get_or, slice_get_within}
-use Rattle.merge_up.proofs.WorkLemmas.{begun_next, ends_of_merge, merged_next}
+use Rattle.merge_up.proofs.Vocabulary.{length, arith, numbers_below, first_made, merge_at, merge_here, second_made}
+use Rattle.merge_up.proofs.WorkLemmas.{ends_of_merge, merged_next}
 use Rattle.merge_up.proofs.bottom_up.merge.Goals as goal
-
-pub loop-register-preserved : goal.loop-register-preserved
-loop-register-preserved c =
-    let register = c.loop-register.register in
-    begun_next c.args.sinks.now register _ c.args.work.now c.loop-register.work c.set_sink.new.self
-    (slice_get-get_or c.args.sinks.now register _ c.loop-register-test.true)
-    c.loop-register.invariant c.set_sink.ensures
 
 pub loop-place-init : goal.loop-place-init
 loop-place-init c =
-    let begun = c.loop-register.invariant in
-    let done = c.loop-register-test.false in
+    let set = c.set_sinks.ensures in
     record {
-      room = begun.room;
-      count = begun.count;
-      renewals = omega (arith, begun.renewals, begun.fit.renewals);
-      of_sinks = λ register sink here. begun.held register sink
-          (omega (arith, done, slice_get_within c.args.sinks.now register sink here)) here;
+      room = set.room;
+      count = set.count;
+      renewals = omega (arith, set.renewals, set.fit.renewals);
+      of_sinks = set.sinks;
       of_merges = λ lower before. absurd (omega (arith, before));
       kept = λ lower before. absurd (omega (arith, before));
-      settled = begun.settled (omega (arith, done, c.requires.sinks.some));
+      settled = set.settled;
     }
 
 pub kept_ends-second-requires : goal.kept_ends-second-requires

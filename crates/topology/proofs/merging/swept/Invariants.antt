@@ -1,9 +1,5 @@
-use Rattle.topology.proofs.Vocabulary.{◌+◌, ◌-◌, length, AreFirstSinks, IsSwept}
+use Rattle.topology.proofs.Vocabulary.{◌+◌, ◌-◌, length, IsSwept}
 use Rattle.topology.proofs.merging.swept.Given as goal
-
--- the sinks so far have their clusters
-abbrev pub invariant-loop-sink : goal.invariant-loop-sink
-invariant-loop-sink l = AreFirstSinks l.sinks l.sink-index l.clusters.live
 
 -- the nodes so far are swept
 abbrev pub invariant-loop-node : goal.invariant-loop-node

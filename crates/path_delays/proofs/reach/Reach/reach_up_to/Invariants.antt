@@ -1,22 +1,6 @@
--- The registers passed so far start, each in its lane with each signal that it launches, and then
--- all signals below the rank hand on their sums.
-use Rattle.path_delays.proofs.Vocabulary.{◌+◌, ◌-◌, ◌≤◌, length, take, HasReachRoom, AllBelow, BegunIn, IsSpread, IsSpreadBelow}
+-- All signals below the rank hand on their sums.
+use Rattle.path_delays.proofs.Vocabulary.{◌+◌, ◌-◌, ◌≤◌, length, HasReachRoom, IsSpreadBelow}
 use Rattle.path_delays.proofs.reach.Reach.reach_up_to.Given as goal
-
-abbrev pub invariant-loop-lane : goal.invariant-loop-lane
-invariant-loop-lane l = record {
-  spread : IsSpreadBelow l.from.circuit.now l.from.tech.now l.network l.from.registers.now l.lane 1
-      l.self;
-  room : HasReachRoom l.network l.self;
-}
-
-abbrev pub invariant-loop-signal : goal.invariant-loop-signal
-invariant-loop-signal l = record {
-  spread : IsSpread l.from.circuit.now l.from.tech.now l.network l.from.registers.now
-      (BegunIn l.lane (take l.signal-index l.signal-items))
-      (AllBelow l.network 1) 1 l.self;
-  room : HasReachRoom l.network l.self;
-}
 
 abbrev pub invariant-loop-next : goal.invariant-loop-next
 invariant-loop-next l = record {
