@@ -7,3 +7,4 @@ pub mod Relaxing
 pub mod Rounds
 pub mod Sweeps
 pub mod Tails
+pub mod Vocabulary

@@ -18,6 +18,7 @@ impl Rounds<'_> {
             if self.are_through(gains) {
                 return;
             }
+            self.turns.link_at_first(self.relaxation.constraints, gains);
             self.follow_parents(gains);
             self.take_turns(gains);
         }
@@ -28,6 +29,7 @@ impl Rounds<'_> {
     pub fn take_round(&mut self, gains: Gains)
         ensures { AreSameRounds self.old self.new }
     {
+        self.turns.link_at_first(self.relaxation.constraints, gains);
         self.lower();
         self.follow_parents(gains);
         self.take_turns(gains);

@@ -18,8 +18,7 @@ pub struct Gains {
 
 impl Gains {
     ghost use Rattle.std.specs.Prelude.{◌≡◌, ◌^◌};
-    ghost use Rattle.cts_model.specs.Vocabulary.{IsBelow};
-    ghost use Rattle.relaxation.specs.Gains.{gain_of};
+    ghost use Rattle.relaxation.specs.Vocabulary.{IsBelow, gain_of};
 
     /// What the constraint asks of the head beyond the tail.
     pub fn gain(self, constraint: &Constraint) -> i128

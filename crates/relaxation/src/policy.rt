@@ -9,6 +9,7 @@ ghost use Rattle.relaxation.specs.Rounds.{AreSameRounds};
 use crate::gains::Gains;
 use crate::relaxation::{Relaxation, cut};
 use crate::rounds::Rounds;
+use crate::strong::Strong;
 
 /// The mark of a register whose value stands.
 pub(crate) const STANDS: u32 = u32::MAX;
@@ -29,15 +30,18 @@ impl Relaxation<'_> {
 }
 
 impl Rounds<'_> {
-    /// Makes the constraint that gains most of those that are linked and lead to a register its
-    /// parent. All values become 0.
+    /// Makes the constraint that gains most of those that are to be linked and lead to a register
+    /// its parent. All values become 0.
     pub fn choose_parents(&mut self, gains: Gains)
         ensures { AreSameRounds self.old self.new }
     {
         let relaxation = &mut self.relaxation;
         relaxation.values.fill(NO_GAIN);
-        for register in 0..self.marks.len() {
-            self.prefer_from(gains, register);
+        let strong = self.turns.strong;
+        for (place, constraint) in relaxation.constraints.iter().enumerate() {
+            if Strong::are_all_or_has(strong, constraint) {
+                self.prefer(gains, place);
+            }
         }
         let relaxation = &mut self.relaxation;
         relaxation.values.fill(0);
@@ -77,20 +81,6 @@ impl Rounds<'_> {
             let falls = place < relaxation.constraints.len() && !stands;
             let value = relaxation.values[register];
             relaxation.values[register] = cut(if falls { lowest } else { value });
-        }
-    }
-
-    // Makes each linked constraint that leads from a register its head's parent if it gains more.
-    fn prefer_from(&mut self, gains: Gains, from: usize)
-        ensures { AreSameRounds self.old self.new }
-    {
-        let mut next = self.turns.last_from(from);
-        for _step in 0..self.relaxation.constraints.len() {
-            let Some(place) = next else {
-                return;
-            };
-            self.prefer(gains, place);
-            next = self.turns.before(place);
         }
     }
 

@@ -24,11 +24,7 @@ pub struct Relaxation<'a> {
 }
 
 impl<'a> Relaxation<'a> {
-    ghost use Rattle.relaxation.specs.Gains.{AdmitsGains, SatisfiesGains};
-    ghost use Rattle.relaxation.specs.Parents.{ReachesUp, value_of};
-    ghost use Rattle.relaxation.specs.Relaxing.{IsFarUp, IsFromZero, IsRelaxed};
-    ghost use Rattle.relaxation.specs.Rises.{AreRaised};
-    ghost use Rattle.relaxation.specs.Sweeps.{IsSweep};
+    ghost use Rattle.relaxation.specs.Vocabulary.{AdmitsGains, SatisfiesGains, ReachesUp, value_of, IsFarUp, IsFromZero, IsRelaxed, AreRaised, IsSweep};
 
     /// Values of 0 that keep no parents, in a list that may hold any. It takes no memory.
     pub fn without_parents(constraints: &'a [Constraint], values: Vec<i128>) -> Relaxation<'a>
@@ -198,7 +194,7 @@ fn rescaled(value: i128, last: Gains, next: Gains) -> i128
     ensures { IsBelow (2 ^ 88) result }
 {
     let kept = cut(value);
-    if next.scale == last.scale {
+    if next.scale == last.scale || kept == 0 {
         return kept;
     }
     cut(kept * next.scale / last.scale)

@@ -24,8 +24,7 @@ pub struct Rounds<'a> {
 }
 
 impl<'a> Rounds<'a> {
-    ghost use Rattle.relaxation.specs.Relaxing.{IsFromZero};
-    ghost use Rattle.relaxation.specs.Rounds.{AreSameRounds};
+    ghost use Rattle.relaxation.specs.Vocabulary.{IsFromZero, AreSameRounds};
 
     /// Values of 0 and no parents, where each register waits.
     ///

@@ -18,8 +18,10 @@ const TIMES: i128 = 2;
 pub(crate) struct Turns {
     // The constraints that are linked.
     tails: ByTail,
-    // Which these are, where not all are.
-    strong: Option<Strong>,
+    // Whether any are yet.
+    linked: bool,
+    /// Which are to be linked, where not all are.
+    pub(crate) strong: Option<Strong>,
     // How far apart values may lie, in ticks, for no other constraint to raise one.
     spread: i128,
     // For each register 0 where it doesn't wait, else 1 more than the one that waits behind it, or
@@ -33,9 +35,7 @@ pub(crate) struct Turns {
 }
 
 impl Turns {
-    /// Each register waits, in the order of the numbers. Where registers have many constraints, of
-    /// which few can raise one while values lie as near one another as the greatest gain suggests,
-    /// these few are linked, and else all.
+    /// Each register waits, in the order of the numbers, and no constraint is linked yet.
     ///
     /// # Errors
     ///
@@ -53,6 +53,7 @@ impl Turns {
         };
         let mut turns = Turns {
             tails,
+            linked: false,
             strong: None,
             spread: 0,
             behind: vec![in alloc; 0u32; registers]?,
@@ -61,9 +62,19 @@ impl Turns {
             registers: registers as u32,
             waiting: 0,
         };
-        let apart = apart_at_first(registers, constraints, gains);
-        turns.link_within(constraints, gains, apart);
+        turns.choose_at_first(constraints, gains);
+        turns.let_all_wait();
         Ok(turns)
+    }
+
+    /// Links constraints, if none are linked yet: where registers have many, of which few can raise
+    /// one while values lie as near one another as the greatest gain suggests, these few, and else
+    /// all. Each register waits then.
+    pub(crate) fn link_at_first(&mut self, constraints: &[Constraint], gains: Gains) {
+        if !self.linked {
+            self.choose_at_first(constraints, gains);
+            self.link(constraints);
+        }
     }
 
     /// Whether no register waits, and no constraint that isn't linked raises one. Where values that
@@ -76,13 +87,9 @@ impl Turns {
         if self.strong.is_none() || greatest / gains.scale <= self.spread {
             return true;
         }
-        self.link_within(relaxation.constraints, gains, greatest.wrapping_mul(2));
+        self.choose_within(relaxation.constraints, gains, greatest.wrapping_mul(2));
+        self.link(relaxation.constraints);
         false
-    }
-
-    // Whether a constraint is linked.
-    fn links(&self, constraint: &Constraint) -> bool {
-        self.strong.is_none_or(|strong| strong.has(constraint))
     }
 
     /// The value from which registers rise by their parents: 0 where not all constraints are
@@ -91,25 +98,37 @@ impl Turns {
         if self.strong.is_some() { 0 } else { i128::MIN }
     }
 
-    // Links the constraints that can raise a register while no values lie further apart, where
-    // these are few, and else all. Each register waits then.
-    fn link_within(&mut self, constraints: &[Constraint], gains: Gains, apart: i128) {
+    // Chooses the constraints to link by how far apart values are thought to lie at first.
+    fn choose_at_first(&mut self, constraints: &[Constraint], gains: Gains) {
+        let apart = apart_at_first(self.registers as usize, constraints, gains);
+        self.choose_within(constraints, gains, apart);
+    }
+
+    // Chooses the constraints that can raise a register while no values lie further apart, where
+    // these are few, and else all.
+    fn choose_within(&mut self, constraints: &[Constraint], gains: Gains, apart: i128) {
         let strong = Strong::within(gains, apart);
         self.strong = strong.are_few(constraints).then_some(strong);
         self.spread = apart / gains.scale;
+    }
+
+    // Links the constraints that are chosen. Each register waits then.
+    fn link(&mut self, constraints: &[Constraint]) {
+        self.linked = true;
         self.tails.last.fill(0);
+        let strong = self.strong;
         let mut mark = 0u32;
         for constraint in constraints {
             mark = mark.wrapping_add(1);
-            if self.links(constraint) {
-                self.link(constraint.tail, mark);
+            if Strong::are_all_or_has(strong, constraint) {
+                self.link_one(constraint.tail, mark);
             }
         }
         self.let_all_wait();
     }
 
     // Links a constraint that leads from a register. The mark is 1 more than its place.
-    fn link(&mut self, tail: u32, mark: u32) {
+    fn link_one(&mut self, tail: u32, mark: u32) {
         let Some(last) = self.tails.last.get_mut(tail as usize) else {
             return;
         };

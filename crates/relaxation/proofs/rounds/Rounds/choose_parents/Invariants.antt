@@ -1,5 +1,5 @@
 use Rattle.relaxation.proofs.Vocabulary.{AreSameRounds}
 use Rattle.relaxation.proofs.rounds.Rounds.choose_parents.Given as goal
 
-abbrev pub invariant-loop-register : goal.invariant-loop-register
-invariant-loop-register l = AreSameRounds l.initial.self l.self
+abbrev pub invariant-loop-place : goal.invariant-loop-place
+invariant-loop-place l = AreSameRounds l.initial.self l.self
