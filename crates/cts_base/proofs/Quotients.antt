@@ -1,5 +1,5 @@
 -- Signed numbers divided by their greatest common divisor.
-use Rattle.cts_base.proofs.Vocabulary.{◌≡◌, ℕ, zero, suc, ◌*◌, ◌/◌, ◌<◌, ◌≤◌, ℤ, pos, negsuc, neg_ℤ, ◌*ℤ◌, ◌≤ℤ◌, nat_abs, to_z, of_z, FitsSigned, refl, sym, ap, ◌∙◌, arith, mul-div_cancel', div-le_self, w128, ints, quot_fits, quot_is, IsGcd, int_div, IsLowest}
+use Rattle.cts_base.proofs.Vocabulary.{◌≡◌, ℕ, zero, suc, ◌*◌, ◌/◌, ◌<◌, ◌≤◌, ℤ, pos, negsuc, neg_ℤ, ◌*ℤ◌, ◌≤ℤ◌, nat_abs, to_z, of_z, FitsSigned, refl, sym, ap, ◌∙◌, arith, mul-div_cancel', div-le_self, one-dvd, w128, ints, quot_fits, quot_is, IsGcd, int_div, IsLowest}
 use Rattle.cts_base.proofs.Divisors.{coprime, some_divisor}
 
 -- what the code divides is divided over the whole numbers
@@ -40,6 +40,13 @@ lowest_quotients num (pos d) (pos divisor) some positive greatest =
     }
 lowest_quotients num (negsuc d) divisor some positive greatest = absurd (omega (arith, ints))
 lowest_quotients num den (negsuc d) some positive greatest = absurd (omega (arith, ints))
+
+-- a whole number over 1 is in lowest terms
+pub whole_lowest : (num : ℤ) → IsLowest num (pos 1)
+whole_lowest num = record {
+  some_den = omega (arith, ints);
+  coprime = (one-dvd (nat_abs num), one-dvd 1, λ divisor above below. below);
+}
 
 -- numbers divided by a common divisor have the products of the numbers crosswise
 cross : (divisor num den a b : ℕ) → divisor * num ≡ a → divisor * den ≡ b → num * b ≡ a * den

@@ -1,4 +1,4 @@
-ghost use Rattle.std.specs.Prelude.{◌≡◌, ◌≤◌, ◌^◌, ◌∷◌, ◌++◌, length, pos, ◌*ℤ◌, ◌≤ℤ◌, nat_abs, OnOk, OnErr};
+ghost use Rattle.std.specs.Prelude.{◌≡◌, ◌≤◌, ◌^◌, ◌∷◌, ◌++◌, ◌↔◌, IsTrue, length, pos, ◌*ℤ◌, ◌≤ℤ◌, ◌<ℤ◌, nat_abs, OnOk, OnErr};
 ghost use Rattle.cts_base.specs.Vocabulary.{IsGcd, IsBelow, IsLowest, fraction_text, quotient_text};
 
 use crate::NoMemory;
@@ -14,8 +14,6 @@ pub struct Fraction {
 }
 
 impl Fraction {
-    ghost use Rattle.std.specs.Prelude.{◌↔◌, IsTrue, ◌<ℤ◌};
-
     /// The fraction of a numerator and a denominator. It takes no memory.
     pub fn of(num: i128, den: i128) -> Fraction
         requires some_den { pos 1 ≤ℤ den }
@@ -25,6 +23,9 @@ impl Fraction {
         ensures num { nat_abs result.num ≤ nat_abs num }
         ensures den { result.den ≤ℤ den }
     {
+        if den == 1 {
+            return Fraction { num, den };
+        }
         let divisor = common_divisor(num, den);
         Fraction {
             num: num / divisor,

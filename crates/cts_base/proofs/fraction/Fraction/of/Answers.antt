@@ -1,9 +1,14 @@
-use Rattle.cts_base.proofs.Vocabulary.{FitsSigned, rules, w128, to_z-of_z}
-use Rattle.cts_base.proofs.Quotients.{int_div-le, lowest_quotients, quotient_is, same_value}
+use Rattle.cts_base.proofs.Vocabulary.{◌≡◌, FitsSigned, pos, to_z, of_z, arith, rules, w128, ints, to_z-of_z}
+use Rattle.cts_base.proofs.Quotients.{int_div-le, lowest_quotients, quotient_is, same_value, whole_lowest}
 use Rattle.cts_base.proofs.fraction.Fraction.of.Goals as goal
 
 pub invariant_of-result : goal.invariant_of-result
 invariant_of-result c =
+    let one : to_z w128 (of_z w128 c.args.den) ≡ pos 1 = omega (arith, ints) in
+    rw one (record { lowest = whole_lowest (to_z w128 (of_z w128 c.args.num)) })
+
+pub invariant_of-result-2 : goal.invariant_of-result-2
+invariant_of-result-2 c =
     let divisor = c.common_divisor-divisor in
     let some = divisor.ensures.some in
     let fits : FitsSigned w128 divisor.result = search rules in
