@@ -16,7 +16,6 @@ struct Statements<'a> {
 }
 
 impl<'a> LineFormat<'a> for Statements<'a> {
-    ghost use Rattle.bench_reader.specs.Faults.{bench_line_fault};
     ghost use Rattle.bench_reader.specs.Said.{HasRead};
     ghost use Rattle.bench_reader.specs.declared.fault.BenchFault.TheVariants.{NoMemory};
 

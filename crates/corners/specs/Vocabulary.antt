@@ -5,8 +5,10 @@ pub use Rattle.cts_model.specs.Vocabulary.{JoinsMoreThan, IsLoop, Satisfies, Are
 pub use Rattle.gate_order.specs.LevelParts.{IsLevelsOf}
 pub use Rattle.path_delays.specs.JoinedPairs.{ShowsTooMany}
 pub use Rattle.corners.specs.CommonPeriods.{HasNoCommonPeriod}
-pub use Rattle.corners.specs.CornerConstraints.{AreCommonConstraints, AreConstraintsBy, IsGreatestOf}
+pub use Rattle.corners.specs.CornerConstraints.{AreCommonConstraints, AreConstraintsBy, IsCombined, IsGreatestOf}
 pub use Rattle.corners.specs.CornerLists.{AreCorners}
 pub use Rattle.corners.specs.CornerOutcomes.{HasLowestFirst, HasSmallCommonTimes, IsCornersOutcome, IsNeverCommon}
 pub use Rattle.corners.specs.GreatestWeights.{IsCombinedAt}
+pub use Rattle.corners.specs.Inclusions.{IsIncludedAt}
+pub use Rattle.corners.specs.NamedPlaces.{AreNamedAt}
 pub use Rattle.corners.specs.Types.{Constraint}

@@ -1,5 +1,5 @@
 ghost use Rattle.std.specs.Prelude.{◌≡◌, ◌<◌, ◌++◌, ◌∷◌, [], List, IfOk, length};
-ghost use Rattle.corners.specs.Vocabulary.{Constraint, AreWithin};
+ghost use Rattle.corners.specs.Vocabulary.{Constraint, AreWithin, IsCombined, IsIncludedAt, AreNamedAt};
 
 use cts_base::{Listed, NoMemory};
 use cts_model::Constraint;
@@ -15,10 +15,6 @@ pub struct Combined {
 }
 
 impl Combined {
-    ghost use Rattle.corners.specs.CornerConstraints.{IsCombined};
-    ghost use Rattle.corners.specs.Inclusions.{IsIncludedAt};
-    ghost use Rattle.corners.specs.NamedPlaces.{AreNamedAt};
-
     /// The list of the first corner alone. It takes memory for a number for each constraint.
     pub(crate) fn first(alloc: Global, list: Listed<Constraint>) -> Result<Combined, NoMemory>
         ensures { IfOk result (IsCombined (list ∷ [])) }

@@ -6,7 +6,7 @@ pub use Rattle.relaxation.specs.Parents.{AreParents, EndsClimb, parent_of}
 pub use Rattle.relaxation.specs.declared.gains.Gains.{Gains}
 pub use Rattle.critical_cycle.specs.CyclePlaces.{AreWithin, IsFromLowest, constraints_at, tail_at}
 pub use Rattle.critical_cycle.specs.Floors.{IsSmallFloor}
-pub use Rattle.critical_cycle.specs.Measures.{CanTry}
+pub use Rattle.critical_cycle.specs.Measures.{CanTry, cycle_count, cycle_weight}
 pub use Rattle.critical_cycle.specs.Periods.{HasForbidding, HasSmallValue, IsFloor, IsNeverPeriod, IsPeriodOf, period_of}
 pub use Rattle.critical_cycle.specs.Raises.{IsRaise}
 pub use Rattle.critical_cycle.specs.Ratios.{IsRatioOf}

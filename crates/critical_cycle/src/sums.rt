@@ -17,8 +17,7 @@ pub(crate) struct Sums {
 }
 
 impl Sums {
-    ghost use Rattle.critical_cycle.specs.CyclePlaces.{constraints_at};
-    ghost use Rattle.critical_cycle.specs.Measures.{cycle_count, cycle_weight};
+    ghost use Rattle.critical_cycle.specs.Vocabulary.{constraints_at, cycle_count, cycle_weight};
 
     /// The sums of a cycle.
     pub(crate) fn of(measure: Measure, cycle: &Cycle<'_>) -> Sums

@@ -1,7 +1,7 @@
 -- Texts of moves, and what each tells. A line that isn't blank has three words, a register's name
 -- and the two coordinates of the place where it goes. The form is this project's choice; comments
 -- and words are those of the ISCAS'89 and Bookshelf formats.
-use Rattle.std.specs.Prelude.{◌≡◌, ◌+◌, ℕ, nat_lt, List, [], ◌∷◌, length, filter_map, Option, Some, None, Result, Ok, Err, if◌then◌else◌}
+use Rattle.std.specs.Prelude.{◌+◌, ℕ, nat_lt, List, [], ◌∷◌, length, filter_map, Option, Some, None, Result, Ok, Err, if◌then◌else◌}
 use Rattle.std.specs.Option.{option_or}
 use Rattle.std.specs.Result.{result_ok, result_err}
 use Rattle.cts_base.specs.LineFormats.{first_fault, unless_faulty}

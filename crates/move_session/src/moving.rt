@@ -18,9 +18,9 @@ pub(crate) struct Moving {
     pub(crate) moves: Listed<Move>,
 }
 
-impl Moving {
-    ghost use Rattle.move_session.specs.Taken.{HasTaken};
+ghost use Rattle.move_session.specs.Taken.{HasTaken};
 
+impl Moving {
     /// No moves.
     pub(crate) fn new(alloc: Global, circuit: &Circuit) -> Result<Moving, NoMemory>
         ensures names { IfOk result (λ moving. moving.names ≡ register_names circuit.now) }
@@ -51,8 +51,6 @@ impl Moving {
 }
 
 impl<'a> LineFormat<'a> for Moving {
-    ghost use Rattle.move_session.specs.Taken.{HasTaken};
-
     type Fault = MovesFault;
 
     ghost no_memory = { fault.NoMemory };

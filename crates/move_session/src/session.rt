@@ -28,13 +28,10 @@ impl Model for Session {
     ghost invariant = { IsUpToDate };
 }
 
-impl Session {
-    ghost use Rattle.std.specs.Prelude.{◌≡◌, ◌<◌, ◌+◌, ◌*◌, ◌-◌, ◌^◌, min, IfOk, length};
-    ghost use Rattle.cts_model.specs.Vocabulary.{IsLeastWire, RealisesOffsets, embedding_of, total_wire, IsBelow, IsUvBelow, IsUvMultipleOf, AreTreeSinks, IsTopology};
-    ghost use Rattle.move_session.specs.MergesAbove.{merges_above};
-    ghost use Rattle.move_session.specs.Sessions.{StandsFor, moved_sinks};
-    ghost use Rattle.place_down.specs.Trees.{IsTreeSource, reach_in};
+ghost use Rattle.std.specs.Prelude.{◌≡◌, ◌<◌, ◌+◌, ◌*◌, ◌-◌, ◌^◌, min, IfOk, length};
+ghost use Rattle.move_session.specs.Vocabulary.{IsLeastWire, RealisesOffsets, embedding_of, total_wire, IsBelow, IsUvBelow, IsUvMultipleOf, AreTreeSinks, IsTreeSink, IsTopology, merges_above, StandsFor, moved_sink, moved_sinks, IsTreeSource, reach_in};
 
+impl Session {
     /// The tree of a topology over sinks. Each merge is made once.
     ///
     /// # Errors
@@ -131,9 +128,6 @@ impl Session {
         self.work.renewals()
     }
 }
-
-ghost use Rattle.std.specs.Prelude.{◌≡◌, ◌<◌, ◌^◌, length};
-ghost use Rattle.move_session.specs.Vocabulary.{IsUvBelow, IsUvMultipleOf, AreTreeSinks, IsTreeSink, moved_sink};
 
 // A register's sink at another place.
 fn moved_sink(sinks: &[Sink], register: u32, to: Uv) -> Sink

@@ -20,10 +20,10 @@ pub(crate) struct Placing {
     begun: bool,
 }
 
+ghost use Rattle.place_reader.specs.Taken.{HasTaken, TakesLine};
+
 impl<'a> LineFormat<'a> for Placing {
     type Fault = PlaceFault;
-
-    ghost use Rattle.place_reader.specs.Taken.{HasTaken};
 
     ghost no_memory = { fault.NoMemory };
 
@@ -40,8 +40,6 @@ impl<'a> LineFormat<'a> for Placing {
 }
 
 impl Placing {
-    ghost use Rattle.place_reader.specs.Taken.{HasTaken, TakesLine};
-
     /// Nothing is placed of what is wanted.
     pub(crate) fn new(
         alloc: Global,

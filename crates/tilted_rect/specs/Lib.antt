@@ -5,3 +5,4 @@ pub mod Extremes
 pub mod Intervals
 pub mod Laws
 pub mod Rects
+pub mod Vocabulary

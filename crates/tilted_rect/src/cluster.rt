@@ -1,4 +1,4 @@
-ghost use Rattle.std.specs.Prelude.{◌^◌};
+ghost use Rattle.std.specs.Prelude.{◌≡◌, ◌^◌, List, [], ◌∷◌, ◌+ℤ◌, ◌-ℤ◌, ◌≤ℤ◌};
 ghost use Rattle.cts_model.specs.Vocabulary.{IsBelow, IsMultipleOf};
 ghost use Rattle.tilted_rect.specs.Clusters.{HasTreeSinks};
 
@@ -18,11 +18,7 @@ pub struct Cluster {
 }
 
 impl Cluster {
-    ghost use Rattle.std.specs.Prelude.{◌≡◌, List, [], ◌∷◌, ◌+ℤ◌, ◌-ℤ◌, ◌≤ℤ◌};
-    ghost use Rattle.cts_model.specs.declared.place.Sink.{Sink};
-    ghost use Rattle.cts_model.specs.Vocabulary.{IsDoubleReach, IsUnion, IsTreeSink};
-    ghost use Rattle.tilted_rect.specs.Extremes.{IsGrown};
-    ghost use Rattle.tilted_rect.specs.ClusterSets.{IsCluster, cost_of};
+    ghost use Rattle.tilted_rect.specs.Vocabulary.{Sink, IsDoubleReach, IsUnion, IsTreeSink, IsGrown, IsCluster, cost_of};
 
     /// The cluster of a sink alone. It takes no memory.
     pub fn of(sink: Sink) -> Cluster

@@ -1,4 +1,4 @@
-ghost use Rattle.std.specs.Prelude.{◌≡◌, ℤ, pos, ◌≤ℤ◌};
+ghost use Rattle.std.specs.Prelude.{◌≡◌, ◌↔◌, ℕ, ℤ, pos, ◌+ℤ◌, ◌-ℤ◌, ◌≤ℤ◌, ◌<ℤ◌, IsNone, IfSome};
 ghost use Rattle.tilted_rect.specs.Corners.{IsRect};
 
 use crate::interval::between;
@@ -19,12 +19,7 @@ pub struct Rect {
 }
 
 impl Rect {
-    ghost use Rattle.std.specs.Prelude.{ℕ, ◌+ℤ◌, ◌-ℤ◌, ◌<ℤ◌, ◌↔◌, IsNone, IfSome};
-    ghost use Rattle.std.specs.Int.{int_max, int_min};
-    ghost use Rattle.cts_model.specs.declared.place.Uv.{Uv};
-    ghost use Rattle.cts_model.specs.Vocabulary.{IsMultipleOf, IsUvBelow, IsUvMultipleOf, scaled};
-    ghost use Rattle.tilted_rect.specs.Corners.{bound};
-    ghost use Rattle.tilted_rect.specs.Rects.{Holds, HoldBoth, IsNear, HasSides, CanGrowBy, gap_of, IsLeastDistance, clamped_into, IsNearest};
+    ghost use Rattle.tilted_rect.specs.Vocabulary.{int_max, int_min, Uv, IsMultipleOf, IsUvBelow, IsUvMultipleOf, scaled, bound, Holds, HoldBoth, IsNear, HasSides, CanGrowBy, gap_of, IsLeastDistance, clamped_into, IsNearest};
 
     /// The one point.
     pub fn point(at: Uv) -> Rect
