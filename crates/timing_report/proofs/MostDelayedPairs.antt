@@ -1,5 +1,5 @@
 -- The walk over pairs for the one with the greatest delay, and of several the first.
-use Rattle.timing_report.proofs.Vocabulary.{ℕ, ◌≡◌, ◌<◌, ◌≤◌, ◌+◌, ◌^◌, ◌∙◌, List, length, get_or, All, Some, inl, inr, sym, ap, subst, arith, ℤ, pos, ◌≤ℤ◌, ◌<ℤ◌, to_z, of_z, w128, cases_lt, ints, slice_get, slice_get_within, get_or_from_slice_get, IsBelow, IsWithin, PairDelay, IsFirstOf, IsTooQuick, IsMostDelayed}
+use Rattle.timing_report.proofs.Vocabulary.{ℕ, ◌≡◌, ◌<◌, ◌+◌, ◌^◌, ◌∙◌, List, length, get_or, Some, inl, inr, sym, ap, subst, arith, ℤ, pos, ◌≤ℤ◌, ◌<ℤ◌, to_z, of_z, w128, cases_lt, ints, slice_get, slice_get_within, get_or_from_slice_get, IsBelow, IsWithin, PairDelay, IsFirstOf, IsTooQuick}
 
 -- the code has a small delay as it is
 pub delay_kept : (delay : ℤ) → IsWithin 0 65999999999 delay → to_z w128 (of_z w128 delay) ≡ delay
@@ -89,20 +89,3 @@ module _ (hold : ℤ) (pairs : List PairDelay) (count : ℕ) (most pair : PairDe
         (λ inside. omega (arith, ints, so_far.greatest k other inside, more)) (omega (arith, ints));
     first = λ k other before. omega (arith, ints, so_far.greatest k other before, more);
   }
-
--- after the walk each pair meets the hold time
-pub all_slow : {hold : ℤ} {pairs : List PairDelay} {count : ℕ} {most : PairDelay}
-    → length pairs ≤ count → IsMostSoFar hold pairs count most
-    → All (λ one. hold ≤ℤ one.least) pairs
-all_slow all walked = λ place other within. walked.slow place other (omega (arith, all, within))
-
--- and no pair has a greater delay
-pub most_delayed : {hold : ℤ} {pairs : List PairDelay} {count : ℕ} {most : PairDelay}
-    → length pairs ≤ count → IsMostSoFar hold pairs count most → IsMostDelayed pairs most
-most_delayed all walked = record {
-  place = walked.place;
-  within = walked.within;
-  here = walked.here;
-  greatest = λ place other within. walked.greatest place other (omega (arith, all, within));
-  first = walked.first;
-}

@@ -12,5 +12,5 @@ pub use Rattle.cts_model.specs.declared.timing.PairDelay.{PairDelay}
 pub use Rattle.cts_model.specs.table.Tables.{IsWithin}
 pub use Rattle.cts_model.specs.Vocabulary.{IsPath, least_delay, greatest_delay, IsBelow, IsSmallPair, ListsPairs, HasSmallDelays, setup_spare, hold_spare, IsLeastSpare, IsSlackOf, IsSlack, AreSlacks, AreSmallSlacks}
 pub use Rattle.path_delays.proofs.WindowLemmas.{moved, pushed_cases, kept, kept_time, kept_ticks}
-pub use Rattle.timing_report.specs.ListedPairs.{IsFirstOf, IsTooQuick, IsMostDelayed, IsEnoughForAll, IsFloorForAll, IsMostNeeded, Needs, IsZeroSkewOf}
+pub use Rattle.timing_report.specs.ListedPairs.{IsFirstOf, IsTooQuick, IsEnoughForAll, IsFloorForAll, IsMostNeeded, Needs, IsZeroSkewOf}
 pub use Rattle.timing_report.specs.SpareTicks.{setup_ticks, hold_ticks, IsTicks, IsSlackAt, AreSlacksBefore}

@@ -29,15 +29,6 @@ NeedsAtMost setup period pair = (pair.greatest +ℤ setup) ≤ℤ period
 abbrev pub Needs : ℤ → ℤ → PairDelay → Type 0
 Needs setup period pair = pair.greatest +ℤ setup ≡ period
 
--- no pair of the list has a greater delay, and no earlier one as great a delay
-pub record IsMostDelayed (pairs : List PairDelay) (pair : PairDelay) : Type 0 where
-  pub place : ℕ
-  pub within : place < length pairs
-  pub here : slice_index_or pairs place pair ≡ pair
-  pub greatest : All (λ other. other.greatest ≤ℤ pair.greatest) pairs
-  pub first : (earlier : ℕ) (other : PairDelay) → earlier < place
-      → (slice_index_or pairs earlier other).greatest <ℤ pair.greatest
-
 -- every pair meets the hold time, and none needs more than the period
 pub record IsEnoughForAll (tech : Tech) (pairs : List PairDelay) (period : ℤ) : Type 0 where
   pub hold : All (λ pair. tech.hold ≤ℤ pair.least) pairs

@@ -6,5 +6,5 @@ pub use Rattle.cts_model.specs.declared.timing.PairDelay.{PairDelay}
 pub use Rattle.cts_model.specs.table.Tables.{IsWithin}
 pub use Rattle.gate_order.specs.LevelParts.{IsLevelsOf}
 pub use Rattle.path_delays.specs.Windows.{IsWindowBelow}
-pub use Rattle.timing_report.specs.ListedPairs.{IsMostDelayed, IsZeroSkewOf}
+pub use Rattle.timing_report.specs.ListedPairs.{IsZeroSkewOf}
 pub use Rattle.timing_report.specs.SpareTicks.{IsSlackAt, IsTicks}

@@ -1,7 +1,7 @@
 -- The table's numbers and the delays are small, so the code's are the same.
 use Rattle.std.specs.Option.{option_copied}
 use Rattle.timing_report.proofs.Vocabulary.{◌∙◌, get_or, sym, ap, subst, arith, ◌+◌, ◌≤ℤ◌, ◌+ℤ◌, ints, slice_get-get_or}
-use Rattle.timing_report.proofs.MostDelayedPairs.{IsMostSoFar, all_slow, delay_below, delay_kept, first_quick, most_delayed, most_first, most_kept, most_taken, nobody}
+use Rattle.timing_report.proofs.MostDelayedPairs.{IsMostSoFar, delay_below, delay_kept, first_quick, most_first, most_kept, most_taken, nobody}
 use Rattle.timing_report.proofs.ListedPeriods.{small_at, floor_enough, most_needed}
 use Rattle.timing_report.proofs.equal_arrivals.zero_skew_of.Goals as goal
 use Rattle.timing_report.proofs.equal_arrivals.zero_skew_of.Goals.{then-is_less-2, else-is_less-2}
@@ -74,14 +74,13 @@ returns-then-value-tech c =
     c.requires in
     let low : (c.loop-pair.most.greatest +ℤ c.args.tech.now.setup) ≤ℤ c.args.tech.now.floor =
     omega (arith, ints, small.greatest) in
-    floor_enough c.args.tech.now c.args.pairs.now c.loop-pair.most _
-    (all_slow (omega arith) walked) (most_delayed (omega arith) walked) low (omega (arith, ints))
+    floor_enough c.args.tech.now c.args.pairs.now c.loop-pair.most _ (omega arith) walked low
+    (omega (arith, ints))
 
 pub returns-else-value-tech : goal.returns-else-value-tech
 returns-else-value-tech c =
     let walked = c.loop-pair.invariant in
     let small = small_at c.args.pairs.now walked.place c.loop-pair.most walked.within walked.here
     c.requires in
-    most_needed c.args.tech.now c.args.pairs.now c.loop-pair.most _
-    (all_slow (omega arith) walked) (most_delayed (omega arith) walked)
+    most_needed c.args.tech.now c.args.pairs.now c.loop-pair.most _ (omega arith) walked
     (omega (arith, ints, small.greatest)) (omega (arith, ints, small.greatest))
