@@ -9,7 +9,6 @@ ghost use Rattle.relaxation.specs.Rounds.{AreSameRounds};
 use crate::gains::Gains;
 use crate::relaxation::{Relaxation, cut};
 use crate::rounds::Rounds;
-use crate::strong::Strong;
 
 /// The mark of a register whose value stands.
 pub(crate) const STANDS: u32 = u32::MAX;
@@ -39,8 +38,12 @@ impl Rounds<'_> {
         relaxation.values.fill(NO_GAIN);
         let strong = self.turns.strong;
         for (place, constraint) in relaxation.constraints.iter().enumerate() {
-            if Strong::are_all_or_has(strong, constraint) {
+            if strong.is_none_or(|strong| strong.has(constraint)) {
                 self.prefer(gains, place);
+                if strong.is_some() {
+                    let mark = (place as u32).wrapping_add(1);
+                    self.turns.link_early(constraint.tail, mark);
+                }
             }
         }
         let relaxation = &mut self.relaxation;

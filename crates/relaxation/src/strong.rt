@@ -31,11 +31,6 @@ impl Strong {
         constraint.weight >= least
     }
 
-    /// Whether a constraint is one of these, where not all are meant.
-    pub(crate) fn are_all_or_has(strong: Option<Strong>, constraint: &Constraint) -> bool {
-        strong.is_none_or(|strong| strong.has(constraint))
-    }
-
     /// Whether at most an eighth of the constraints are, by a look at some.
     pub(crate) fn are_few(&self, constraints: &[Constraint]) -> bool {
         let mut strong = 0usize;

@@ -98,9 +98,14 @@ impl Turns {
         if self.strong.is_some() { 0 } else { i128::MIN }
     }
 
-    // Chooses the constraints to link by how far apart values are thought to lie at first.
+    // Chooses the constraints to link by how far apart values are thought to lie at first: by a look
+    // at some constraints, or without limit where registers have few.
     fn choose_at_first(&mut self, constraints: &[Constraint], gains: Gains) {
-        let apart = apart_at_first(self.registers as usize, constraints, gains);
+        let apart = if constraints.len() / MANY < self.registers as usize {
+            i128::MAX
+        } else {
+            greatest_gain(constraints, gains).wrapping_mul(TIMES)
+        };
         self.choose_within(constraints, gains, apart);
     }
 
@@ -120,11 +125,18 @@ impl Turns {
         let mut mark = 0u32;
         for constraint in constraints {
             mark = mark.wrapping_add(1);
-            if Strong::are_all_or_has(strong, constraint) {
+            if strong.is_none_or(|strong| strong.has(constraint)) {
                 self.link_one(constraint.tail, mark);
             }
         }
         self.let_all_wait();
+    }
+
+    /// Links a constraint that leads from a register, before any other call does. The mark is 1 more
+    /// than its place.
+    pub(crate) fn link_early(&mut self, tail: u32, mark: u32) {
+        self.linked = true;
+        self.link_one(tail, mark);
     }
 
     // Links a constraint that leads from a register. The mark is 1 more than its place.
@@ -209,13 +221,4 @@ impl Turns {
     pub(crate) fn before(&self, place: usize) -> Option<usize> {
         Some(self.tails.before.get(place)?.checked_sub(1)? as usize)
     }
-}
-
-// How far apart values are thought to lie at first: by a look at some constraints, or without limit
-// where registers have few.
-fn apart_at_first(registers: usize, constraints: &[Constraint], gains: Gains) -> i128 {
-    if constraints.len() / MANY < registers {
-        return i128::MAX;
-    }
-    greatest_gain(constraints, gains).wrapping_mul(TIMES)
 }
