@@ -31,11 +31,12 @@ fi
 examples=$top/examples
 
 # Whether `rt ci` was the last to build the library of each crate below. It proves these and leaves no stamp on them, so
-# that `rt lib` would prove them all again.
+# that `rt lib` would prove them all again. One that is kept has the time of its first proof; the program is linked anew
+# after each change.
 are_left_by_ci() {
-    local built=$top/crates/cts_engine/out/rlib
-    [ -d "$built" ] && [ ! -e "$built/stamp" ] &&
-        [ -z "$(find "$top"/crates/*/{src,specs,proofs} \( -name '*.rt' -o -name '*.antt' \) -newer "$built" -print -quit)" ]
+    local built=$top/crates/cts_engine/out/rlib linked=$top/crates/cts_program/out/cts_program
+    [ -d "$built" ] && [ ! -e "$built/stamp" ] && [ -e "$linked" ] &&
+        [ -z "$(find "$top"/crates/*/{src,specs,proofs} \( -name '*.rt' -o -name '*.antt' \) -newer "$linked" -print -quit)" ]
 }
 
 # Proves `cts_c` over those libraries and builds the archive, as `rt lib` does.
