@@ -30,7 +30,7 @@ impl Relaxation<'_> {
 
 impl Rounds<'_> {
     /// Makes the constraint that gains most of those that are to be linked and lead to a register
-    /// its parent. All values become 0.
+    /// its parent, and links these where they are few. All values become 0.
     pub fn choose_parents(&mut self, gains: Gains)
         ensures { AreSameRounds self.old self.new }
     {

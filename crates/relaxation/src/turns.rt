@@ -98,8 +98,8 @@ impl Turns {
         if self.strong.is_some() { 0 } else { i128::MIN }
     }
 
-    // Chooses the constraints to link by how far apart values are thought to lie at first: by a look
-    // at some constraints, or without limit where registers have few.
+    // Chooses the constraints to link by how far apart values are thought to lie at first: by a
+    // look at some constraints, or without limit where registers have few.
     fn choose_at_first(&mut self, constraints: &[Constraint], gains: Gains) {
         let apart = if constraints.len() / MANY < self.registers as usize {
             i128::MAX
@@ -132,8 +132,8 @@ impl Turns {
         self.let_all_wait();
     }
 
-    /// Links a constraint that leads from a register, before any other call does. The mark is 1 more
-    /// than its place.
+    /// Links a constraint that leads from a register, before any other call does. The mark is 1
+    /// more than its place.
     pub(crate) fn link_early(&mut self, tail: u32, mark: u32) {
         self.linked = true;
         self.link_one(tail, mark);
