@@ -31,8 +31,8 @@ fi
 examples=$top/examples
 
 # Whether `rt ci` was the last to build the library of each crate below. It proves these and leaves no stamp on them, so
-# that `rt lib` would prove them all again. One that is kept has the time of its first proof; the program is linked anew
-# after each change.
+# that `rt lib` would prove them all again. One that is kept has the time of its first proof, so the program's time
+# counts, which is linked anew after each change of code. After a change of words alone `rt lib` does prove them again.
 are_left_by_ci() {
     local built=$top/crates/cts_engine/out/rlib linked=$top/crates/cts_program/out/cts_program
     [ -d "$built" ] && [ ! -e "$built/stamp" ] && [ -e "$linked" ] &&
