@@ -1,5 +1,5 @@
 mod Vocabulary
-mod SetLemmas
+pub mod SetLemmas
 pub mod GainLemmas
 pub mod RelaxLemmas
 mod ParentLemmas
@@ -10,4 +10,3 @@ mod ClimbLemmas
 pub mod Climbs
 mod SettleLemmas
 mod PrepareLemmas
-mod TailLemmas

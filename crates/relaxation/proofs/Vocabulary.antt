@@ -16,7 +16,6 @@ pub use Rattle.relaxation.specs.Parents.{parent_of, Climbs, AreParents, EndsClim
 pub use Rattle.relaxation.specs.Relaxing.{offer_of, GivesMore, IsLeft, IsRaised, IsRelaxed, IsFarUp, IsFromZero}
 pub use Rattle.relaxation.specs.Rises.{AreRaised, AreRaisedBy}
 pub use Rattle.relaxation.specs.Sweeps.{IsReady, IsSwept, IsSweep, IsSweeping, LeavesParents}
-pub use Rattle.relaxation.specs.Tails.{IsLastBefore, AreByTail}
 pub use Rattle.relaxation.specs.Rounds.{AreSameRounds, HasRisen}
 pub use Rattle.relaxation.specs.declared.gains.Gains.{Gains}
 pub use Rattle.relaxation.specs.declared.relaxation.Relaxation.{Relaxation}

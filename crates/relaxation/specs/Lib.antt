@@ -6,5 +6,4 @@ pub mod Rises
 pub mod Relaxing
 pub mod Rounds
 pub mod Sweeps
-pub mod Tails
 pub mod Vocabulary

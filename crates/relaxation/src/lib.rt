@@ -8,10 +8,8 @@ mod policy;
 mod relaxation;
 mod rounds;
 mod strong;
-mod tails;
 mod turns;
 
 pub use gains::Gains;
 pub use relaxation::Relaxation;
 pub use rounds::Rounds;
-pub use tails::ByTail;

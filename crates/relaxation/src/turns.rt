@@ -1,12 +1,11 @@
 use crate::gains::Gains;
 use crate::relaxation::Relaxation;
 use crate::strong::{Strong, greatest_gain};
-use crate::tails::ByTail;
 use cts_base::NoMemory;
 use cts_model::Constraint;
 use std::alloc::Global;
 
-/// How many constraints a register has in a list of which most may never raise one.
+/// How many constraints registers have where most may never raise one, and they lie far apart.
 const MANY: usize = 64;
 
 /// How many times the greatest gain values are thought to lie apart.
@@ -16,9 +15,11 @@ const TIMES: i128 = 2;
 /// first out, each once, with the constraints that lead from each.
 #[derive(Drop)]
 pub(crate) struct Turns {
-    // The constraints that are linked.
-    tails: ByTail,
-    // Whether any are yet.
+    // For each register 1 more than the place of the last linked constraint that leads from it, or
+    // 0, and for each that is linked the same of the one before it that has its tail.
+    last_from: Vec<u32>,
+    before: Vec<u32>,
+    // Whether any are linked yet.
     linked: bool,
     /// Which are to be linked, where not all are.
     pub(crate) strong: Option<Strong>,
@@ -47,12 +48,9 @@ impl Turns {
     ) -> Result<Turns, NoMemory> {
         let registers = relaxation.values.len();
         let constraints = relaxation.constraints;
-        let tails = ByTail {
-            last: vec![in alloc; 0u32; registers]?,
-            before: vec![in alloc; 0u32; constraints.len()]?,
-        };
         let mut turns = Turns {
-            tails,
+            last_from: vec![in alloc; 0u32; registers]?,
+            before: vec![in alloc; 0u32; constraints.len()]?,
             linked: false,
             strong: None,
             spread: 0,
@@ -101,12 +99,17 @@ impl Turns {
     // Chooses the constraints to link by how far apart values are thought to lie at first: by a
     // look at some constraints, or without limit where registers have few.
     fn choose_at_first(&mut self, constraints: &[Constraint], gains: Gains) {
-        let apart = if constraints.len() / MANY < self.registers as usize {
-            i128::MAX
-        } else {
+        let apart = if self.have_many() {
             greatest_gain(constraints, gains).wrapping_mul(TIMES)
+        } else {
+            i128::MAX
         };
         self.choose_within(constraints, gains, apart);
+    }
+
+    // Whether registers have many constraints.
+    fn have_many(&self) -> bool {
+        self.before.len() / MANY >= self.registers as usize
     }
 
     // Chooses the constraints that can raise a register while no values lie further apart, where
@@ -120,7 +123,7 @@ impl Turns {
     // Links the constraints that are chosen. Each register waits then.
     fn link(&mut self, constraints: &[Constraint]) {
         self.linked = true;
-        self.tails.last.fill(0);
+        self.last_from.fill(0);
         let strong = self.strong;
         let mut mark = 0u32;
         for constraint in constraints {
@@ -141,10 +144,10 @@ impl Turns {
 
     // Links a constraint that leads from a register. The mark is 1 more than its place.
     fn link_one(&mut self, tail: u32, mark: u32) {
-        let Some(last) = self.tails.last.get_mut(tail as usize) else {
+        let Some(last) = self.last_from.get_mut(tail as usize) else {
             return;
         };
-        if let Some(before) = self.tails.before.get_mut(mark.wrapping_sub(1) as usize) {
+        if let Some(before) = self.before.get_mut(mark.wrapping_sub(1) as usize) {
             *before = *last;
             *last = mark;
         }
@@ -162,9 +165,11 @@ impl Turns {
         self.waiting == self.registers
     }
 
-    /// Whether all constraints are linked, and half of the registers wait, or more.
+    /// Whether all constraints are linked, and so many registers wait that a sweep over the list is
+    /// quicker than their turns: half of them, or 1 of 16 where their constraints lie far apart.
     pub(crate) fn do_many_wait(&self) -> bool {
-        self.strong.is_none() && self.waiting >= self.registers / 2
+        let part = if self.have_many() { 16 } else { 2 };
+        self.strong.is_none() && self.waiting >= self.registers / part
     }
 
     /// Lets no register wait any more.
@@ -214,11 +219,11 @@ impl Turns {
 
     /// The place of the last linked constraint that leads from a register.
     pub(crate) fn last_from(&self, register: usize) -> Option<usize> {
-        Some(self.tails.last.get(register)?.checked_sub(1)? as usize)
+        Some(self.last_from.get(register)?.checked_sub(1)? as usize)
     }
 
     /// The place of the linked constraint before one that leads from the same register.
     pub(crate) fn before(&self, place: usize) -> Option<usize> {
-        Some(self.tails.before.get(place)?.checked_sub(1)? as usize)
+        Some(self.before.get(place)?.checked_sub(1)? as usize)
     }
 }

@@ -1,5 +1,5 @@
 -- What is looked at from each register that is taken.
-use Rattle.schedule.proofs.Vocabulary.{Arrivals, ◌≡◌, ◌<◌, ◌≤◌, ◌+◌, ◌∙◌, ℕ, zero, suc, ℤ, pos, negsuc, ◌≤ℤ◌, ◌<ℤ◌, false, Contains, length, get_or, inl, inr, subst, sym, refl, arith, true≢false, ap, cases_eq, cases_lt, ints, get_or_default, get_or_read, Constraint, Reach, Tight, arrival_of, IsTight, IsTightLead, depth_of, lead_at, IsLastBefore, IsAdded, IsGrown, IsHanded, IsHandedBy, IsReachKept, IsReached, IsReaching, nowhere}
+use Rattle.schedule.proofs.Vocabulary.{Arrivals, ◌≡◌, ◌<◌, ◌≤◌, ◌+◌, ◌∙◌, ℕ, zero, suc, ℤ, pos, negsuc, ◌≤ℤ◌, ◌<ℤ◌, false, List, Contains, length, get_or, inl, inr, subst, sym, refl, arith, true≢false, ap, cases_eq, cases_lt, ints, get_or_default, get_or_read, Constraint, Reach, Tight, arrival_of, IsTight, IsTightLead, depth_of, lead_at, AreTightByTail, IsLastBefore, IsTightFrom, IsAdded, IsGrown, IsHanded, IsHandedBy, IsReachKept, IsReached, IsReaching, nowhere}
 use Rattle.std.proofs.lemmas.List.Elements.{Contains-get_or}
 use Rattle.schedule.proofs.ReachLemmas.{IsReachKept-added, IsReaching-added, flag_here}
 
@@ -7,7 +7,7 @@ use Rattle.schedule.proofs.ReachLemmas.{IsReachKept-added, IsReaching-added, fla
 pub record IsHanding (arrivals : Arrivals)
     (register mark : ℕ) (old new : Reach) : Type 0 where
   pub handed : IsHanded arrivals register mark old new
-  pub next : IsLastBefore arrivals.constraints.now mark register mark
+  pub next : IsLastBefore arrivals mark register mark
   pub bound : mark ≤ length arrivals.constraints.now
 
 -- so many in the queue are taken
@@ -90,17 +90,29 @@ module _ {arrivals : Arrivals} {old : Reach}
           (flag_here reaching added head first);
     }
 
+-- a constraint that is tight and has the tail, whatever stands past the end
+from_here : {arrivals : Arrivals} {register : ℕ} (place : ℕ)
+    → place < length arrivals.constraints.now → (default any : Constraint)
+    → (get_or arrivals.constraints.now place default).tail ≡ register
+    → IsTight arrivals.period arrivals.at.now (get_or arrivals.constraints.now place any)
+    → IsTightFrom arrivals register (get_or arrivals.constraints.now place any)
+from_here {arrivals} place within default any tail tight = record {
+  tail = ap (λ (c : Constraint). c.tail)
+      (get_or_default arrivals.constraints.now place any default within) ∙ tail;
+  tight = tight;
+}
+
 module _ {arrivals : Arrivals}
     {register mark : ℕ} {old : Reach} where
   -- at first all constraints are left
-  pub IsHanding-none : IsReaching arrivals (length arrivals.at.now) old → IsLastBefore
-      arrivals.constraints.now
+  pub IsHanding-none : IsReaching arrivals (length arrivals.at.now) old → IsLastBefore arrivals
       (length arrivals.constraints.now) register mark → IsHanding arrivals register mark old old
   IsHanding-none reaching last = record {
     handed = record {
       keeps = IsReachKept-same old;
       reaching = reaching;
-      handed = λ place default past within tail. absurd (last.none place default past within tail);
+      handed = λ place default past within tail any tight. absurd (last.none place any past within
+          (from_here place within default any tail tight));
     };
     next = record {
       within = omega arith;
@@ -110,11 +122,22 @@ module _ {arrivals : Arrivals}
     bound = last.within;
   }
 
+  -- the mark that is read at the mark's constraint
+  pub next_mark : {now : Reach} {last before : List ℕ} → IsHanding arrivals register mark old now
+      → AreTightByTail arrivals (length arrivals.constraints.now) last before → (place : ℕ)
+      → place + 1 ≡ mark → (next : ℕ) → next ≡ get_or before place next
+      → IsLastBefore arrivals place register next
+  next_mark {before = before} handing tails place place_is next read =
+      let within : place < length arrivals.constraints.now =
+      omega (arith, place_is, handing.bound) in
+      subst (IsLastBefore arrivals place register)
+      (sym (get_or_read before place next (omega (arith, within, tails.befores)) read 0))
+      (tails.before_is register place nowhere within (handing.next.here place nowhere place_is))
+
   -- the mark's constraint is looked at
   pub IsHanding-more : {now new : Reach} → IsHanding arrivals register mark old now
       → (place : ℕ) → place + 1 ≡ mark → IsGrown arrivals place now new → (before : ℕ)
-      → IsLastBefore arrivals.constraints.now place
-      (get_or arrivals.constraints.now place nowhere).tail before
+      → IsLastBefore arrivals place register before
       → IsHanding arrivals register before old new
   IsHanding-more {now} {new} handing place place_is grown before last = record {
     handed = record {
@@ -124,16 +147,12 @@ module _ {arrivals : Arrivals}
     };
     next = record {
       within = omega arith;
-      here = λ other default next. last.here other default next ∙ tail;
+      here = last.here;
       none = λ other default past below. absurd (omega (arith, past, below));
     };
     bound = omega (arith, last.within, place_is, handing.bound);
   }
     where
-      -- its tail is the register
-      tail : (get_or arrivals.constraints.now place nowhere).tail ≡ register
-      tail = handing.next.here place nowhere place_is
-
       -- what is looked at now
       handed : (other : ℕ) (default : Constraint) → before ≤ other → other < length
           arrivals.constraints.now
@@ -145,8 +164,8 @@ module _ {arrivals : Arrivals}
             tight)
         | inr not_later ↦ elim (cases_eq other place) [
           | inl same ↦ subst (IsHandedBy arrivals new) (sym same) grown.handed
-          | inr apart ↦ absurd (last.none other default past
-              (omega (arith, not_later, apart)) (is ∙ sym tail))
+          | inr apart ↦ λ any tight. absurd (last.none other any past
+              (omega (arith, not_later, apart)) (from_here other within default any is tight))
         ]
       ]
 

@@ -5,5 +5,6 @@ mod PeriodLemmas
 mod RiseLemmas
 mod TightLemmas
 mod ReachLemmas
+mod TailLemmas
 mod HandLemmas
 mod LeadLemmas

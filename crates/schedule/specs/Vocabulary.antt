@@ -1,7 +1,6 @@
 -- The words that the contracts of this crate have in common.
 pub use Rattle.cts_model.specs.Vocabulary.{IsBelow, AreSmallConstraints, EachLead, depth_of, lead_at, IsSmallPeriod, IsSmallConstraint, IsTight}
 pub use Rattle.relaxation.specs.Gains.{AdmitsGains}
-pub use Rattle.relaxation.specs.Tails.{AreByTail}
 pub use Rattle.schedule.specs.Gains.{AreGainsOf, AreLeastArrivalsBy}
 pub use Rattle.schedule.specs.Given.{IsGiven}
 pub use Rattle.schedule.specs.Rises.{CanRaise}

@@ -1,21 +1,17 @@
 ghost use Rattle.std.specs.Prelude.{◌↔◌, IsTrue, length};
-ghost use Rattle.schedule.specs.Vocabulary.{IsSmallConstraint, IsTight, AreByTail, IsGiven};
+ghost use Rattle.schedule.specs.Vocabulary.{IsSmallConstraint, IsTight, IsGiven};
 
 use crate::least::gains_of;
 use cts_base::Fraction;
 use cts_model::Constraint;
-use relaxation::ByTail;
 
-/// Arrivals at a period, and constraints between their registers by the tails.
+/// Arrivals at a period, and constraints between their registers.
 #[derive(Clone, Copy)]
 pub(crate) struct Arrivals<'a> {
     pub(crate) constraints: &'a [Constraint],
-    pub(crate) tails: &'a ByTail,
     pub(crate) at: &'a [i128],
     pub(crate) period: Fraction,
     pub(crate) ghost given: { IsGiven constraints.now period at.now },
-    pub(crate) ghost linked: { AreByTail constraints.now (length at.now) (length constraints.now)
-        tails.now.last.items tails.now.before.items },
 }
 
 impl Arrivals<'_> {

@@ -4,6 +4,7 @@
 mod arrivals;
 mod least;
 mod reach;
+mod tails;
 mod tight;
 
 pub use least::{least_arrivals, least_schedule, least_schedule_in};

@@ -1,7 +1,9 @@
 ghost use Rattle.std.specs.Prelude.{◌<◌, ◌+◌, IfOk, OnOk, length, slice_index_or};
 ghost use Rattle.cts_model.specs.declared.constraint.Constraint.{Constraint};
+ghost use Rattle.schedule.specs.Vocabulary.{IsTight};
 
 use crate::arrivals::Arrivals;
+use crate::tails::TightByTail;
 use crate::tight::depth_of;
 use cts_base::NoMemory;
 use cts_model::Lead;
@@ -62,48 +64,48 @@ impl Reach {
     }
 
     /// Takes each register that is reached in turn, and hands leads on from it.
-    pub(crate) fn reach_all(&mut self, arrivals: &Arrivals<'_>) -> Result<(), NoMemory>
-        requires { IsReaching arrivals.now (length arrivals.now.at.now) self.old }
-        ensures { OnOk result (IsWhole arrivals.now self.new) }
+    pub(crate) fn reach_all(&mut self, tight: &TightByTail<'_>) -> Result<(), NoMemory>
+        requires { IsReaching tight.now.arrivals (length tight.now.arrivals.at.now) self.old }
+        ensures { OnOk result (IsWhole tight.now.arrivals self.new) }
     {
         let mut taken = 0;
         while taken < self.queue.len() {
             let register = self.queue[taken];
-            self.hand_on(arrivals, register)?;
+            self.hand_on(tight, register)?;
             taken += 1;
         }
         Ok(())
     }
 
-    // Hands a lead on by each constraint that leads from a register.
-    fn hand_on(&mut self, arrivals: &Arrivals<'_>, register: u32) -> Result<(), NoMemory>
-        requires reaching { IsReaching arrivals.now (length arrivals.now.at.now) self.old }
+    // Hands a lead on by each tight constraint that leads from a register.
+    fn hand_on(&mut self, tight: &TightByTail<'_>, register: u32) -> Result<(), NoMemory>
+        requires reaching { IsReaching tight.now.arrivals (length tight.now.arrivals.at.now)
+            self.old }
         requires reached { IsReached self.old register }
-        requires within { register < length arrivals.now.at.now }
-        ensures { OnOk result (IsHanded arrivals.now register 0 self.old self.new) }
+        requires within { register < length tight.now.arrivals.at.now }
+        ensures { OnOk result (IsHanded tight.now.arrivals register 0 self.old self.new) }
     {
-        let mut mark = arrivals.tails.last[register as usize];
+        let mut mark = tight.last[register as usize];
         while mark > 0 {
             let place = mark as usize - 1;
-            self.offer(arrivals, place)?;
-            mark = arrivals.tails.before[place];
+            self.offer(&tight.arrivals, place)?;
+            mark = tight.before[place];
         }
         Ok(())
     }
 
-    // Hands a lead on by a constraint, if it is tight and its head has none.
+    // Hands a lead on by a tight constraint, if its head has none.
     fn offer(&mut self, arrivals: &Arrivals<'_>, place: usize) -> Result<(), NoMemory>
         requires place { place < length arrivals.now.constraints.now }
         requires reaching { IsReaching arrivals.now (length arrivals.now.at.now) self.old }
         requires tail { (default : Constraint)
             → IsReached self.old (slice_index_or arrivals.now.constraints.now place default).tail }
+        requires tight { (default : Constraint) → IsTight arrivals.now.period arrivals.now.at.now
+            (slice_index_or arrivals.now.constraints.now place default) }
         ensures { OnOk result (IsGrown arrivals.now place self.old self.new) }
     {
         let constraint = arrivals.constraints[place];
         if self.reached[constraint.head as usize] {
-            return Ok(());
-        }
-        if !arrivals.has_tight(&constraint) {
             return Ok(());
         }
         let depth = depth_of(&self.leads[constraint.tail as usize]) + 1;

@@ -3,15 +3,15 @@ ghost use Rattle.schedule.specs.Vocabulary.{AreSmallConstraints, EachLead, IsAdm
 
 use crate::arrivals::Arrivals;
 use crate::reach::Reach;
+use crate::tails::TightByTail;
 use cts_base::{Fraction, Listed, NoMemory};
 use cts_model::{Constraint, Lead, Schedule};
-use relaxation::ByTail;
 use std::alloc::Global;
 
 /// What shows of each register that its arrival in the least schedule can't be earlier. It takes
-/// memory for each register and a number for each constraint, and looks at each constraint twice:
-/// to link it with those of its tail, and when its tail is taken. Registers are taken in the order
-/// in which they are reached, those at 0 first.
+/// memory for each register and a number for each constraint, and looks at each constraint once, at
+/// those that are tight once more when their tail is taken. Registers are taken in the order in
+/// which they are reached, those at 0 first.
 ///
 /// # Errors
 ///
@@ -35,15 +35,13 @@ pub fn leads(
     ensures low { IfOk result (λ leads. (register : ℕ)
         → depth_of (lead_at leads register) ≤ registers) }
 {
-    let tails = ByTail::of(alloc, registers, constraints.as_slice())?;
     let arrivals = Arrivals {
         constraints: constraints.as_slice(),
-        tails: &tails,
         at: schedule.at.as_slice(),
         period,
     };
     let mut reach = Reach::start(alloc, &arrivals)?;
-    reach.reach_all(&arrivals)?;
+    reach.reach_all(&TightByTail::of(alloc, arrivals)?)?;
     Ok(Listed::from_vec(reach.leads))
 }
 

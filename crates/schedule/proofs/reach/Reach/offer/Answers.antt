@@ -1,4 +1,4 @@
-use Rattle.schedule.proofs.Vocabulary.{rules, ◌≡◌, ◌<◌, ◌+◌, ◌∙◌, length, false, get_or, ap, arith, on_ok_weaker, get_or_read, Constraint, Zero, IsTight, depth_of, lead_at, nowhere}
+use Rattle.schedule.proofs.Vocabulary.{rules, ◌≡◌, ◌<◌, ◌+◌, ◌∙◌, length, false, get_or, ap, arith, on_ok_weaker, get_or_read, Constraint, Zero, depth_of, lead_at, nowhere}
 use Rattle.schedule.proofs.HandLemmas.{IsGrown-offered}
 use Rattle.schedule.proofs.reach.Reach.offer.Goals as goal
 
@@ -7,7 +7,6 @@ returns c =
     let it : Constraint = get_or c.args.arrivals.now.constraints.now c.args.place nowhere in
     let old = c.args.self.now in
     let first : get_or old.reached.items it.head false ≡ false = search rules in
-    let tight : IsTight c.args.arrivals.now.period c.args.arrivals.now.at.now it = search rules in
     let small = c.args.arrivals.now.given.small.each c.args.place nowhere c.requires.place in
     let tail : it.tail < length old.leads.items =
     omega (arith, small.tail, c.requires.reaching.long) in
@@ -17,4 +16,4 @@ returns c =
     omega (arith, c.depth_of-depth.ensures ∙ ap depth_of read) in
     on_ok_weaker
     c.add.result (IsGrown-offered c.requires.reaching c.args.place c.requires.place
-    (c.requires.tail nowhere) first tight (c.depth_of-depth.result + 1) depth_is) c.add.ensures
+    (c.requires.tail nowhere) first (c.requires.tight nowhere) (c.depth_of-depth.result + 1) depth_is) c.add.ensures
