@@ -34,14 +34,14 @@ pub fn constraints_of(
         → ListsPairs circuit tech.now pairs.now → length pairs.now ≤ 1048576
         → AreSmallConstraints (length circuit.registers) constraints) }
 {
-    let mut constraints = Listed::new(alloc);
+    let mut constraints = Vec::with_capacity(alloc, pairs.len().saturating_mul(2))?;
     for pair in pairs.as_slice() {
         let setup = setup_constraint(pair, tech);
         let hold = hold_constraint(pair, tech);
         constraints.push(setup)?;
         constraints.push(hold)?;
     }
-    Ok(constraints)
+    Ok(Listed::from_vec(constraints))
 }
 
 // What the greatest delay asks.

@@ -3,6 +3,7 @@ ghost use Rattle.relaxation.specs.Rounds.{AreSameRounds, HasRisen};
 
 use crate::gains::Gains;
 use crate::policy::STANDS;
+use crate::relaxation::place_at;
 use crate::rounds::Rounds;
 
 /// No register hands on a value above this one.
@@ -14,13 +15,12 @@ impl Rounds<'_> {
     pub fn raise(&mut self, gains: Gains)
         ensures { HasRisen gains self.old self.new }
     {
-        for _round in 0..self.relaxation.values.len() {
+        for round in 0..self.relaxation.values.len() {
             if self.are_through(gains) {
                 return;
             }
-            self.turns.link_at_first(self.relaxation.constraints, gains);
             self.follow_parents(gains);
-            self.take_turns(gains);
+            self.take_turns(gains, round % 2 == 0);
         }
     }
 
@@ -29,10 +29,11 @@ impl Rounds<'_> {
     pub fn take_round(&mut self, gains: Gains)
         ensures { AreSameRounds self.old self.new }
     {
-        self.turns.link_at_first(self.relaxation.constraints, gains);
+        self.turns
+            .choose_at_first_turn(self.relaxation.constraints, gains);
         self.lower();
         self.follow_parents(gains);
-        self.take_turns(gains);
+        self.take_turns(gains, true);
     }
 
     // Raises each register by its parent, after the registers above it up the parents, so a long
@@ -97,23 +98,24 @@ impl Rounds<'_> {
     // wait, else one after the other, and those that they raise too, until as many had their turn
     // as there are. A register that is raised waits. Moore, "The shortest path through a maze",
     // 1959; with parents Cherkassky and Goldberg, "Negative-cycle detection algorithms", 1999.
-    fn take_turns(&mut self, gains: Gains)
+    fn take_turns(&mut self, gains: Gains, forwards: bool)
         ensures { HasRisen gains self.old self.new }
     {
         if self.turns.do_many_wait() {
-            self.hand_all_on(gains)
+            self.hand_all_on(gains, forwards)
         } else {
             self.hand_on_by_turns(gains)
         }
     }
 
-    // Relaxes all constraints, in the order of the list.
-    fn hand_all_on(&mut self, gains: Gains)
+    // Relaxes all constraints, in the order of the list or against it.
+    fn hand_all_on(&mut self, gains: Gains, forwards: bool)
         ensures { HasRisen gains self.old self.new }
     {
         self.turns.clear();
-        for place in 0..self.relaxation.constraints.len() {
-            self.offer(gains, place);
+        let places = self.relaxation.constraints.len();
+        for turn in 0..places {
+            self.offer(gains, place_at(turn, places, forwards));
         }
     }
 
@@ -122,6 +124,7 @@ impl Rounds<'_> {
     fn hand_on_by_turns(&mut self, gains: Gains)
         ensures { HasRisen gains self.old self.new }
     {
+        self.turns.link_at_first(self.relaxation.constraints);
         for _turn in 0..self.marks.len() {
             let Some(register) = self.turns.next() else {
                 return;
@@ -156,7 +159,7 @@ impl Rounds<'_> {
             return;
         }
         let raised = self.relaxation.relax(place, gains);
-        self.turns.let_raised_wait(raised);
+        self.turns.let_wait(raised);
     }
 }
 

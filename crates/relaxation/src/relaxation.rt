@@ -180,8 +180,8 @@ impl<'a> Relaxation<'a> {
     }
 }
 
-// The place that a sweep comes to after so many others.
-fn place_at(turn: usize, places: usize, forwards: bool) -> usize
+/// The place that a sweep comes to after so many others.
+pub(crate) fn place_at(turn: usize, places: usize, forwards: bool) -> usize
     requires { turn < places }
     ensures place { result ≡ place_at turn places forwards }
     ensures within { result < places }

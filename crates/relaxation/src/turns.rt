@@ -19,7 +19,8 @@ pub(crate) struct Turns {
     // 0, and for each that is linked the same of the one before it that has its tail.
     last_from: Vec<u32>,
     before: Vec<u32>,
-    // Whether any are linked yet.
+    // Whether those to be linked are chosen for the turns, and linked.
+    chosen: bool,
     linked: bool,
     /// Which are to be linked, where not all are.
     pub(crate) strong: Option<Strong>,
@@ -30,8 +31,9 @@ pub(crate) struct Turns {
     behind: Vec<u32>,
     first: u32,
     last: u32,
-    // How many registers there are, and how many wait.
+    // How many registers there are, whether they have many constraints, and how many wait.
     registers: u32,
+    many: bool,
     waiting: u32,
 }
 
@@ -51,6 +53,7 @@ impl Turns {
         let mut turns = Turns {
             last_from: vec![in alloc; 0u32; registers]?,
             before: vec![in alloc; 0u32; constraints.len()]?,
+            chosen: false,
             linked: false,
             strong: None,
             spread: 0,
@@ -58,6 +61,7 @@ impl Turns {
             first: 0,
             last: 0,
             registers: registers as u32,
+            many: constraints.len() / MANY >= registers,
             waiting: 0,
         };
         turns.choose_at_first(constraints, gains);
@@ -65,12 +69,17 @@ impl Turns {
         Ok(turns)
     }
 
-    /// Links constraints, if none are linked yet: where registers have many, of which few can raise
-    /// one while values lie as near one another as the greatest gain suggests, these few, and else
-    /// all. Each register waits then.
-    pub(crate) fn link_at_first(&mut self, constraints: &[Constraint], gains: Gains) {
-        if !self.linked {
+    /// Chooses the constraints to link anew before the first turn, if none are linked yet.
+    pub(crate) fn choose_at_first_turn(&mut self, constraints: &[Constraint], gains: Gains) {
+        if !self.chosen {
             self.choose_at_first(constraints, gains);
+            self.chosen = true;
+        }
+    }
+
+    /// Links the constraints that are chosen, if none are linked yet.
+    pub(crate) fn link_at_first(&mut self, constraints: &[Constraint]) {
+        if !self.linked {
             self.link(constraints);
         }
     }
@@ -87,6 +96,7 @@ impl Turns {
         }
         self.choose_within(relaxation.constraints, gains, greatest.wrapping_mul(2));
         self.link(relaxation.constraints);
+        self.let_all_wait();
         false
     }
 
@@ -99,17 +109,12 @@ impl Turns {
     // Chooses the constraints to link by how far apart values are thought to lie at first: by a
     // look at some constraints, or without limit where registers have few.
     fn choose_at_first(&mut self, constraints: &[Constraint], gains: Gains) {
-        let apart = if self.have_many() {
+        let apart = if self.many {
             greatest_gain(constraints, gains).wrapping_mul(TIMES)
         } else {
             i128::MAX
         };
         self.choose_within(constraints, gains, apart);
-    }
-
-    // Whether registers have many constraints.
-    fn have_many(&self) -> bool {
-        self.before.len() / MANY >= self.registers as usize
     }
 
     // Chooses the constraints that can raise a register while no values lie further apart, where
@@ -120,7 +125,7 @@ impl Turns {
         self.spread = apart / gains.scale;
     }
 
-    // Links the constraints that are chosen. Each register waits then.
+    // Links the constraints that are chosen.
     fn link(&mut self, constraints: &[Constraint]) {
         self.linked = true;
         self.last_from.fill(0);
@@ -132,12 +137,12 @@ impl Turns {
                 self.link_one(constraint.tail, mark);
             }
         }
-        self.let_all_wait();
     }
 
     /// Links a constraint that leads from a register, before any other call does. The mark is 1
     /// more than its place.
     pub(crate) fn link_early(&mut self, tail: u32, mark: u32) {
+        self.chosen = true;
         self.linked = true;
         self.link_one(tail, mark);
     }
@@ -156,7 +161,7 @@ impl Turns {
     /// Lets each register wait. It takes no memory.
     pub(crate) fn let_all_wait(&mut self) {
         for register in 0..self.registers {
-            self.let_wait(register);
+            self.let_wait(Some(register));
         }
     }
 
@@ -166,9 +171,9 @@ impl Turns {
     }
 
     /// Whether all constraints are linked, and so many registers wait that a sweep over the list is
-    /// quicker than their turns: half of them, or 1 of 16 where their constraints lie far apart.
+    /// quicker than their turns: half of them, or 1 of 32 where their constraints lie far apart.
     pub(crate) fn do_many_wait(&self) -> bool {
-        let part = if self.have_many() { 16 } else { 2 };
+        let part = if self.many { 32 } else { 2 };
         self.strong.is_none() && self.waiting >= self.registers / part
     }
 
@@ -178,16 +183,16 @@ impl Turns {
         self.waiting = 0;
     }
 
-    /// Lets a register wait behind all others, if it doesn't wait.
-    pub(crate) fn let_wait(&mut self, register: u32) {
-        let own = register.wrapping_add(1);
-        let Some(behind) = self.behind.get_mut(register as usize) else {
+    /// Lets a register wait behind all others, if there is one and it doesn't wait.
+    pub(crate) fn let_wait(&mut self, register: Option<u32>) {
+        let Some(register) = register else {
             return;
         };
-        if *behind != 0 {
-            return;
+        let own = register.wrapping_add(1);
+        match self.behind.get_mut(register as usize) {
+            Some(behind) if *behind == 0 => *behind = own,
+            _ => return,
         }
-        *behind = own;
         if self.waiting == 0 {
             self.first = register;
         } else if let Some(behind) = self.behind.get_mut(self.last as usize) {
@@ -195,13 +200,6 @@ impl Turns {
         }
         self.last = register;
         self.waiting = self.waiting.wrapping_add(1);
-    }
-
-    /// Lets a register that was raised wait, if one was.
-    pub(crate) fn let_raised_wait(&mut self, raised: Option<u32>) {
-        if let Some(register) = raised {
-            self.let_wait(register);
-        }
     }
 
     /// The register that has waited longest. It waits no more.

@@ -8,7 +8,7 @@ pub loop-pair-preserved : goal.loop-pair-preserved
 loop-pair-preserved c =
     pushed_next c.args.tech.now _ _ _ _ _ _ _ _ c.loop-pair-test.true c.loop-pair.invariant
     c.setup_constraint-setup.ensures c.hold_constraint-hold.ensures
-    c.in_ok-push.ensures.ok c.in_ok-push-2.ensures.ok
+    c.in_ok-push.ensures.items c.in_ok-push-2.ensures.items
 
 pub returns-clause-value : goal.returns-clause-value
 returns-clause-value c = grind (arith, common_steps)

@@ -4,4 +4,4 @@ use Rattle.constraints.proofs.of_pairs.constraints_of.Given as goal
 
 abbrev pub invariant-loop-pair : goal.invariant-loop-pair
 invariant-loop-pair l =
-    l.constraints ≡ constraints_of_pairs l.tech (take l.pair-index l.pair-items)
+    l.constraints.items ≡ constraints_of_pairs l.tech (take l.pair-index l.pair-items)
