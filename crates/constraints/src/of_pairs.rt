@@ -12,7 +12,7 @@ use std::alloc::Global;
 ///
 /// # Errors
 ///
-/// `NoMemory` where memory is refused.
+/// There is no memory for the list, 64 bytes for each pair.
 pub fn constraints_of(
     alloc: Global,
     pairs: &Listed<PairDelay>,
