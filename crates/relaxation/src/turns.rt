@@ -170,8 +170,8 @@ impl Turns {
         self.waiting == self.registers
     }
 
-    /// Whether all constraints are linked, and so many registers wait that a sweep over the list is
-    /// quicker than their turns: half of them, or 1 of 32 where their constraints lie far apart.
+    /// Whether all constraints are to be linked, and so many registers wait that a sweep is quicker
+    /// than their turns: half of them, or 1 of 32 where their constraints lie far apart.
     pub(crate) fn do_many_wait(&self) -> bool {
         let part = if self.many { 32 } else { 2 };
         self.strong.is_none() && self.waiting >= self.registers / part
