@@ -13,7 +13,7 @@ pub use Rattle.cts_model.specs.declared.constraint.Constraint.{Constraint}
 pub use Rattle.cts_model.specs.Vocabulary.{IsBelow, AreSmallConstraints, IsSmallConstraint}
 pub use Rattle.relaxation.specs.Gains.{AdmitsGains, SatisfiesGains, gain_of, total_gain}
 pub use Rattle.relaxation.specs.Parents.{parent_of, Climbs, AreParents, EndsClimb, HaveOwnHeads, value_of, ReachesUp}
-pub use Rattle.relaxation.specs.Relaxing.{offer_of, GivesMore, IsLeft, IsRaised, IsRelaxed, IsFarUp, IsFromZero}
+pub use Rattle.relaxation.specs.Relaxing.{offer_of, GivesMore, GivesNoMore, IsOffer, IsLeft, IsRaised, IsRelaxed, IsFarUp, IsFromZero}
 pub use Rattle.relaxation.specs.Rises.{AreRaised, AreRaisedBy}
 pub use Rattle.relaxation.specs.Sweeps.{IsReady, IsSwept, IsSweep, IsSweeping, LeavesParents}
 pub use Rattle.relaxation.specs.Rounds.{AreSameRounds, HasRisen}

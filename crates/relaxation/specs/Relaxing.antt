@@ -1,9 +1,10 @@
 -- How values of registers are raised in place until constraints hold, each with the constraint that
 -- raised it. Cherkassky and Goldberg, "Negative-cycle detection algorithms", 1999.
-use Rattle.std.specs.Prelude.{◌≡◌, ◌<◌, ℕ, ℤ, pos, ◌+ℤ◌, ◌≤ℤ◌, ◌<ℤ◌, List, length, replicate, slice_get, slice_set, Option, IfSome, MatchOption}
+use Rattle.std.specs.Prelude.{◌≡◌, ◌<◌, ◌^◌, ℕ, ℤ, pos, ◌+ℤ◌, ◌≤ℤ◌, ◌<ℤ◌, List, length, replicate, slice_get, slice_set, Option, IfSome, MatchOption}
 use Rattle.cts_model.specs.declared.constraint.Constraint.{Constraint}
 use Rattle.relaxation.specs.declared.gains.Gains.{Gains}
 use Rattle.relaxation.specs.declared.relaxation.Relaxation.{Relaxation}
+use Rattle.cts_model.specs.Vocabulary.{IsBelow}
 use Rattle.relaxation.specs.Gains.{gain_of}
 use Rattle.relaxation.specs.Parents.{value_of, AreParents, EndsClimb}
 
@@ -23,10 +24,21 @@ abbrev pub GivesMore : Gains → List ℤ → Constraint → Type 0
 GivesMore gains values constraint =
     value_of values constraint.head <ℤ offer_of gains values constraint
 
+-- or no more
+abbrev pub GivesNoMore : Gains → List ℤ → Constraint → Type 0
+GivesNoMore gains values constraint =
+    offer_of gains values constraint ≤ℤ value_of values constraint.head
+
+-- this is what the constraint gives its head, and more than that has
+pub record IsOffer (gains : Gains) (values : List ℤ) (constraint : Constraint) (offer : ℤ)
+    : Type 0 where
+  pub is : offer ≡ offer_of gains values constraint
+  pub more : GivesMore gains values constraint
+  pub small : IsBelow (2 ^ 116) offer
+
 -- a constraint that gives no more changes nothing
 pub record IsLeft (gains : Gains) (constraint : Constraint) (old new : Relaxation) : Type 0 where
-  pub met : offer_of gains old.values.items constraint
-      ≤ℤ value_of old.values.items constraint.head
+  pub met : GivesNoMore gains old.values.items constraint
   pub values : new.values.items ≡ old.values.items
   pub parents : new.parents.items ≡ old.parents.items
   pub constraints : new.constraints.now ≡ old.constraints.now

@@ -115,7 +115,11 @@ impl Rounds<'_> {
         self.turns.clear();
         let places = self.relaxation.constraints.len();
         for turn in 0..places {
-            self.offer(gains, place_at(turn, places, forwards));
+            let place = place_at(turn, places, forwards);
+            let constraint = &self.relaxation.constraints[place];
+            if self.relaxation.offered(constraint, gains).is_some() {
+                self.offer(gains, place);
+            }
         }
     }
 

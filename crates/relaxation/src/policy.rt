@@ -128,9 +128,7 @@ impl Rounds<'_> {
     }
 
     // What the constraints of the ring gain on which the register stands.
-    fn ring_gain(&self, gains: Gains, top: u32) -> i128
-        requires { top < length self.now.marks.items }
-    {
+    fn ring_gain(&self, gains: Gains, top: u32) -> i128 {
         let mut gain = 0i128;
         let mut register = top;
         for _step in 0..self.marks.len() {

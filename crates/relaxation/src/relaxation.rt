@@ -24,7 +24,7 @@ pub struct Relaxation<'a> {
 }
 
 impl<'a> Relaxation<'a> {
-    ghost use Rattle.relaxation.specs.Vocabulary.{AdmitsGains, SatisfiesGains, ReachesUp, value_of, IsFarUp, IsFromZero, IsRelaxed, AreRaised, IsSweep};
+    ghost use Rattle.relaxation.specs.Vocabulary.{AdmitsGains, SatisfiesGains, ReachesUp, value_of, IsFarUp, IsFromZero, IsSmallConstraint, GivesNoMore, IsOffer, IsRelaxed, AreRaised, IsSweep};
 
     /// Values of 0 that keep no parents, in a list that may hold any. It takes no memory.
     pub fn without_parents(constraints: &'a [Constraint], values: Vec<i128>) -> Relaxation<'a>
@@ -158,14 +158,22 @@ impl<'a> Relaxation<'a> {
         ensures { IsRelaxed self.old.constraints.now gains place self.old result self.new }
     {
         let constraint = &self.constraints[place];
-        let offer = self.values[constraint.tail as usize] + gains.gain(constraint);
+        let offer = self.offered(constraint, gains)?;
         let head = constraint.head;
-        if offer <= self.values[head as usize] {
-            return None;
-        }
         self.values[head as usize] = offer;
         self.keep_parent(head, place as u32);
         Some(head)
+    }
+
+    /// What a constraint gives its head, if that is more than the head has.
+    pub(crate) fn offered(&self, constraint: &Constraint, gains: Gains) -> Option<i128>
+        requires constraint { IsSmallConstraint (length self.now.values.items) constraint.now }
+        requires small { All (IsBelow (2 ^ 115)) self.now.values.items }
+        ensures { MatchOption result (GivesNoMore gains self.now.values.items constraint.now)
+            (IsOffer gains self.now.values.items constraint.now) }
+    {
+        let offer = self.values[constraint.tail as usize] + gains.gain(constraint);
+        (offer > self.values[constraint.head as usize]).then_some(offer)
     }
 
     // Gives a register a parent, where parents are kept.

@@ -78,11 +78,10 @@ impl<'a> Rounds<'a> {
 
     /// The parent of a register, if it has one.
     pub(crate) fn parent(&self, register: u32) -> Option<&'a Constraint>
-        requires { register < length self.now.marks.items }
         ensures small { IfSome result (λ parent. IsBelow (10 ^ 11) parent.now.weight) }
         ensures within { IfSome result (λ parent. parent.now.tail < length self.now.marks.items) }
     {
-        let place = self.relaxation.parents[register as usize];
-        self.relaxation.constraints.get(place as usize)
+        let place = self.relaxation.parents.get(register as usize)?;
+        self.relaxation.constraints.get(*place as usize)
     }
 }

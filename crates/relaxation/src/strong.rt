@@ -33,30 +33,23 @@ impl Strong {
 
     /// Whether at most an eighth of the constraints are, by a look at some.
     pub(crate) fn are_few(&self, constraints: &[Constraint]) -> bool {
-        let mut strong = 0usize;
-        for turn in 0..constraints.len() / EACH {
-            let constraint = constraints.get(turn.wrapping_mul(EACH));
-            if constraint.is_some_and(|constraint| self.has(constraint)) {
-                strong = strong.wrapping_add(1);
-            }
-        }
+        let looked_at = constraints.iter().step_by(EACH);
+        let strong = looked_at.filter(|constraint| self.has(constraint)).count();
         strong <= constraints.len() / EACH / 8
     }
 }
 
 /// The most that a constraint gains, by a look at some, or 0 where none gains that much.
 pub(crate) fn greatest_gain(constraints: &[Constraint], gains: Gains) -> i128 {
-    let mut greatest = 0i128;
-    for turn in 0..constraints.len() / EACH {
-        if let Some(constraint) = constraints.get(turn.wrapping_mul(EACH)) {
-            let asked = gains.scale.wrapping_mul(constraint.weight);
-            let due = if constraint.setup {
-                gains.setup
-            } else {
-                gains.hold
-            };
-            greatest = greatest.max(asked.wrapping_sub(due));
-        }
-    }
-    greatest
+    let looked_at = constraints.iter().step_by(EACH);
+    let gained = looked_at.map(|constraint| {
+        let due = if constraint.setup {
+            gains.setup
+        } else {
+            gains.hold
+        };
+        let asked = gains.scale.wrapping_mul(constraint.weight);
+        asked.wrapping_sub(due)
+    });
+    gained.max().unwrap_or(0).max(0)
 }

@@ -204,14 +204,11 @@ impl Turns {
 
     /// The register that has waited longest. It waits no more.
     pub(crate) fn next(&mut self) -> Option<u32> {
-        if self.waiting == 0 {
-            return None;
-        }
+        self.waiting = self.waiting.checked_sub(1)?;
         let register = self.first;
         let behind = self.behind.get_mut(register as usize)?;
         self.first = behind.wrapping_sub(1);
         *behind = 0;
-        self.waiting -= 1;
         Some(register)
     }
 

@@ -50,7 +50,8 @@ module _ {arrivals : Arrivals} {end : ℕ} {last before : List ℕ}
     last_here = record {
       within = omega arith;
       here = λ place default next. subst (IsTightFrom arrivals it.tail)
-          (sym (at_end place default (omega (arith, next)))) (record { tail = refl; tight = tight });
+          (sym (at_end place default (omega (arith, next))))
+          (record { tail = refl; tight = tight });
       none = λ place default past below from. absurd (omega (arith, past, below));
     }
 

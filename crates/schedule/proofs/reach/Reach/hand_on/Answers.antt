@@ -21,13 +21,13 @@ index-mark-requires-in-loop-mark c =
 
 pub loop-mark-smaller : goal.loop-mark-smaller
 loop-mark-smaller c =
-    let last = next_mark c.loop-mark.invariant c.args.tight.now.linked (c.loop-mark.mark - 1) (omega arith)
-    c.index-mark-in-loop-mark.result.now c.index-mark-in-loop-mark.ensures in
+    let last = next_mark c.loop-mark.invariant c.args.tight.now.linked (c.loop-mark.mark - 1)
+    (omega arith) c.index-mark-in-loop-mark.result.now c.index-mark-in-loop-mark.ensures in
     omega (arith, last.within)
 
 pub loop-mark-preserved : goal.loop-mark-preserved
 loop-mark-preserved c =
     let next = c.index-mark-in-loop-mark.result.now in
     IsHanding-more c.loop-mark.invariant (c.loop-mark.mark - 1) (omega arith) c.in_ok-offer.ensures
-    next (next_mark c.loop-mark.invariant c.args.tight.now.linked (c.loop-mark.mark - 1) (omega arith) next
-    c.index-mark-in-loop-mark.ensures)
+    next (next_mark c.loop-mark.invariant c.args.tight.now.linked (c.loop-mark.mark - 1)
+    (omega arith) next c.index-mark-in-loop-mark.ensures)

@@ -16,4 +16,5 @@ returns c =
     omega (arith, c.depth_of-depth.ensures ∙ ap depth_of read) in
     on_ok_weaker
     c.add.result (IsGrown-offered c.requires.reaching c.args.place c.requires.place
-    (c.requires.tail nowhere) first (c.requires.tight nowhere) (c.depth_of-depth.result + 1) depth_is) c.add.ensures
+    (c.requires.tail nowhere) first (c.requires.tight nowhere) (c.depth_of-depth.result + 1)
+    depth_is) c.add.ensures
