@@ -37,12 +37,15 @@ impl Rounds<'_> {
         let relaxation = &mut self.relaxation;
         relaxation.values.fill(NO_GAIN);
         let strong = self.turns.strong;
+        if strong.is_some() {
+            self.turns.begin_links(relaxation.constraints.len());
+        }
         for (place, constraint) in relaxation.constraints.iter().enumerate() {
             if strong.is_none_or(|strong| strong.has(constraint)) {
                 self.prefer(gains, place);
                 if strong.is_some() {
                     let mark = (place as u32).wrapping_add(1);
-                    self.turns.link_early(constraint.tail, mark);
+                    self.turns.link_one(constraint.tail, mark);
                 }
             }
         }

@@ -16,12 +16,12 @@ const TIMES: i128 = 2;
 #[derive(Drop)]
 pub(crate) struct Turns {
     // For each register 1 more than the place of the last linked constraint that leads from it, or
-    // 0, and for each that is linked the same of the one before it that has its tail.
+    // 0, and for each that is linked the same of the one before it that has its tail. The second
+    // list is empty until some are linked.
     last_from: Vec<u32>,
     before: Vec<u32>,
-    // Whether those to be linked are chosen for the turns, and linked.
+    // Whether those to be linked are chosen for the turns.
     chosen: bool,
-    linked: bool,
     /// Which are to be linked, where not all are.
     pub(crate) strong: Option<Strong>,
     // How far apart values may lie, in ticks, for no other constraint to raise one.
@@ -52,9 +52,8 @@ impl Turns {
         let constraints = relaxation.constraints;
         let mut turns = Turns {
             last_from: vec![in alloc; 0u32; registers]?,
-            before: vec![in alloc; 0u32; constraints.len()]?,
+            before: Vec::with_capacity(alloc, constraints.len())?,
             chosen: false,
-            linked: false,
             strong: None,
             spread: 0,
             behind: vec![in alloc; 0u32; registers]?,
@@ -79,7 +78,7 @@ impl Turns {
 
     /// Links the constraints that are chosen, if none are linked yet.
     pub(crate) fn link_at_first(&mut self, constraints: &[Constraint]) {
-        if !self.linked {
+        if self.before.is_empty() {
             self.link(constraints);
         }
     }
@@ -127,8 +126,7 @@ impl Turns {
 
     // Links the constraints that are chosen.
     fn link(&mut self, constraints: &[Constraint]) {
-        self.linked = true;
-        self.last_from.fill(0);
+        self.begin_links(constraints.len());
         let strong = self.strong;
         let mut mark = 0u32;
         for constraint in constraints {
@@ -139,16 +137,15 @@ impl Turns {
         }
     }
 
-    /// Links a constraint that leads from a register, before any other call does. The mark is 1
-    /// more than its place.
-    pub(crate) fn link_early(&mut self, tail: u32, mark: u32) {
+    /// Takes all links away, before so many constraints are linked. There is room for them.
+    pub(crate) fn begin_links(&mut self, constraints: usize) {
         self.chosen = true;
-        self.linked = true;
-        self.link_one(tail, mark);
+        self.last_from.fill(0);
+        let _room = self.before.resize(constraints, 0);
     }
 
-    // Links a constraint that leads from a register. The mark is 1 more than its place.
-    fn link_one(&mut self, tail: u32, mark: u32) {
+    /// Links a constraint that leads from a register. The mark is 1 more than its place.
+    pub(crate) fn link_one(&mut self, tail: u32, mark: u32) {
         let Some(last) = self.last_from.get_mut(tail as usize) else {
             return;
         };
