@@ -29,11 +29,11 @@ impl Policy<'_> {
             return;
         }
         self.rounds.choose_parents(self.search.trial);
-        for _round in 0..ROUNDS {
+        for round in 0..ROUNDS {
             if !self.reach_shown() || self.rounds.are_through(self.search.trial) {
                 return;
             }
-            self.improve();
+            self.improve(round % 2 == 0);
         }
     }
 
@@ -50,12 +50,12 @@ impl Policy<'_> {
     }
 
     // One round: a ring of parents that gains, or else values by the parents, which registers hand
-    // on. All wait where the ratio is a greater one than in the round before.
-    fn improve(&mut self)
+    // on, in a sweep forwards or backwards. All wait where the ratio has become greater.
+    fn improve(&mut self, forwards: bool)
         ensures { IsSameSearch self.old.search self.new.search }
     {
         let Some(register) = self.rounds.gaining_ring(self.search.trial) else {
-            self.rounds.take_round(self.search.trial);
+            self.rounds.take_round(self.search.trial, forwards);
             return;
         };
         self.rounds.let_all_wait();

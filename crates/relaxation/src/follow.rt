@@ -25,15 +25,15 @@ impl Rounds<'_> {
     }
 
     /// Gives each register a value by its parents, from new ones where each register waits, and
-    /// lets those that wait hand their values on. It takes no memory.
-    pub fn take_round(&mut self, gains: Gains)
+    /// lets those that wait hand theirs on, many by one sweep, forwards or not. It takes no memory.
+    pub fn take_round(&mut self, gains: Gains, forwards: bool)
         ensures { AreSameRounds self.old self.new }
     {
         self.turns
             .choose_at_first_turn(self.relaxation.constraints, gains);
         self.lower();
         self.follow_parents(gains);
-        self.take_turns(gains, true);
+        self.take_turns(gains, forwards);
     }
 
     // Raises each register by its parent, after the registers above it up the parents, so a long

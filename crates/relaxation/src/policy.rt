@@ -34,18 +34,17 @@ impl Rounds<'_> {
     pub fn choose_parents(&mut self, gains: Gains)
         ensures { AreSameRounds self.old self.new }
     {
-        let relaxation = &mut self.relaxation;
-        relaxation.values.fill(NO_GAIN);
         let strong = self.turns.strong;
         if strong.is_some() {
-            self.turns.begin_links(relaxation.constraints.len());
+            self.turns.begin_links(self.relaxation.constraints.len());
         }
+        let relaxation = &mut self.relaxation;
+        relaxation.values.fill(NO_GAIN);
         for (place, constraint) in relaxation.constraints.iter().enumerate() {
             if strong.is_none_or(|strong| strong.has(constraint)) {
                 self.prefer(gains, place);
                 if strong.is_some() {
-                    let mark = (place as u32).wrapping_add(1);
-                    self.turns.link_one(constraint.tail, mark);
+                    self.turns.link_one(constraint.tail, place as u32 + 1);
                 }
             }
         }

@@ -16,8 +16,7 @@ const TIMES: i128 = 2;
 #[derive(Drop)]
 pub(crate) struct Turns {
     // For each register 1 more than the place of the last linked constraint that leads from it, or
-    // 0, and for each that is linked the same of the one before it that has its tail. The second
-    // list is empty until some are linked.
+    // 0, and for each the same of the linked one before it that has its tail, once some are linked.
     last_from: Vec<u32>,
     before: Vec<u32>,
     // Whether those to be linked are chosen for the turns.
@@ -31,10 +30,11 @@ pub(crate) struct Turns {
     behind: Vec<u32>,
     first: u32,
     last: u32,
-    // How many registers there are, whether they have many constraints, and how many wait.
+    // How many registers there are, and how many wait.
     registers: u32,
-    many: bool,
     waiting: u32,
+    // Whether they have many constraints.
+    many: bool,
 }
 
 impl Turns {
@@ -60,8 +60,8 @@ impl Turns {
             first: 0,
             last: 0,
             registers: registers as u32,
-            many: constraints.len() / MANY >= registers,
             waiting: 0,
+            many: constraints.len() / MANY >= registers,
         };
         turns.choose_at_first(constraints, gains);
         turns.let_all_wait();
@@ -146,10 +146,9 @@ impl Turns {
 
     /// Links a constraint that leads from a register. The mark is 1 more than its place.
     pub(crate) fn link_one(&mut self, tail: u32, mark: u32) {
-        let Some(last) = self.last_from.get_mut(tail as usize) else {
-            return;
-        };
-        if let Some(before) = self.before.get_mut(mark.wrapping_sub(1) as usize) {
+        let last = self.last_from.get_mut(tail as usize);
+        let before = self.before.get_mut(mark.wrapping_sub(1) as usize);
+        if let (Some(last), Some(before)) = (last, before) {
             *before = *last;
             *last = mark;
         }
