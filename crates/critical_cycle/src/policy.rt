@@ -25,41 +25,48 @@ impl Policy<'_> {
     pub(crate) fn iterate(&mut self)
         ensures { IsSameSearch self.old.search self.new.search }
     {
-        if !self.reach_shown() {
+        if !self.search.try_shown() {
             return;
         }
         self.rounds.choose_parents(self.search.trial);
         for round in 0..ROUNDS {
-            if !self.reach_shown() || self.rounds.are_through(self.search.trial) {
+            if self.rounds.are_through(self.search.trial) || !self.improve(round % 2 == 0) {
                 return;
             }
-            self.improve(round % 2 == 0);
         }
     }
 
-    // Brings the values to the greatest ratio shown, if some ratio may be enough.
-    fn reach_shown(&mut self) -> bool
+    // One round, if some ratio may be enough: the rings of parents that gain raise the ratio, or
+    // else registers have values by their parents and hand them on, in a sweep forwards or
+    // backwards. All wait where the ratio has become greater.
+    fn improve(&mut self, forwards: bool) -> bool
         ensures { IsSameSearch self.old.search self.new.search }
     {
         let last = self.search.trial;
-        let reached = self.search.try_shown();
-        if reached {
-            self.rounds.rescale(last, self.search.trial);
+        if !self.take_rings() {
+            self.rounds.take_round(self.search.trial, forwards);
+            return true;
         }
-        reached
+        self.rounds.rescale(last, self.search.trial);
+        self.rounds.let_all_wait();
+        self.search.try_shown()
     }
 
-    // One round: a ring of parents that gains, or else values by the parents, which registers hand
-    // on, in a sweep forwards or backwards. All wait where the ratio has become greater.
-    fn improve(&mut self, forwards: bool)
+    // Shows the greatest ratio of the rings of parents, and takes its trial, where it is greater
+    // than what is shown. It tells whether it is.
+    fn take_rings(&mut self) -> bool
         ensures { IsSameSearch self.old.search self.new.search }
     {
-        let Some(register) = self.rounds.gaining_ring(self.search.trial) else {
-            self.rounds.take_round(self.search.trial, forwards);
-            return;
-        };
-        self.rounds.let_all_wait();
-        self.take_ring(register);
+        for ring in 0..self.rounds.marks.len() {
+            let Some(register) = self.rounds.gaining_ring(self.search.trial) else {
+                return ring > 0;
+            };
+            self.take_ring(register);
+            if !self.search.try_shown() {
+                return true;
+            }
+        }
+        true
     }
 
     // Shows the ring of parents above the register where its ratio is greater than what is shown.

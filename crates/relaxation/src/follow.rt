@@ -85,7 +85,7 @@ impl Rounds<'_> {
         let mut register = top;
         for _step in 0..self.marks.len() {
             let place = self.relaxation.parents[register as usize] as usize;
-            self.offer(gains, place);
+            let _raised = self.offer(gains, place);
             let below = self.marks[register as usize].wrapping_sub(1);
             if below == register || below as usize >= self.marks.len() {
                 return;
@@ -94,14 +94,13 @@ impl Rounds<'_> {
         }
     }
 
-    // Lets the registers that wait hand their values on: in one sweep over the list where many
-    // wait, else one after the other, and those that they raise too, until as many had their turn
-    // as there are. A register that is raised waits. Moore, "The shortest path through a maze",
-    // 1959; with parents Cherkassky and Goldberg, "Negative-cycle detection algorithms", 1999.
+    // Lets the registers that wait hand their values on: in one sweep over the list, or in a pass of
+    // turns. A register that is raised waits. With parents: Cherkassky and Goldberg, "Negative-cycle
+    // detection algorithms", 1999.
     fn take_turns(&mut self, gains: Gains, forwards: bool)
         ensures { HasRisen gains self.old self.new }
     {
-        if self.turns.do_many_wait() {
+        if self.turns.is_sweep_quicker() {
             self.hand_all_on(gains, forwards)
         } else {
             self.hand_on_by_turns(gains)
@@ -112,32 +111,34 @@ impl Rounds<'_> {
     fn hand_all_on(&mut self, gains: Gains, forwards: bool)
         ensures { HasRisen gains self.old self.new }
     {
-        self.turns.clear();
+        self.turns.begin_sweep();
         let places = self.relaxation.constraints.len();
         for turn in 0..places {
             let place = place_at(turn, places, forwards);
             let constraint = &self.relaxation.constraints[place];
             if self.relaxation.offered(constraint, gains).is_some() {
-                self.offer(gains, place);
+                let _raised = self.offer(gains, place);
             }
         }
+        self.turns.waiting.have_handed_on(&self.relaxation);
     }
 
-    // Lets as many registers as there are hand their values on, one after the other, or all that
-    // wait where these are fewer.
+    // One pass: the registers that wait, and those that they raise, hand their values on in turn,
+    // each once.
     fn hand_on_by_turns(&mut self, gains: Gains)
         ensures { HasRisen gains self.old self.new }
     {
         self.turns.link_at_first(self.relaxation.constraints);
+        self.turns.waiting.begin_pass(&self.relaxation);
         for _turn in 0..self.marks.len() {
-            let Some(register) = self.turns.next() else {
+            let Some(register) = self.turns.waiting.next(&self.relaxation) else {
                 return;
             };
             self.hand_on(gains, register as usize);
         }
     }
 
-    // Relaxes each constraint that leads from a register.
+    // Relaxes each constraint that leads from a register. The heads that it raises have turns too.
     fn hand_on(&mut self, gains: Gains, from: usize)
         ensures { HasRisen gains self.old self.new }
     {
@@ -146,24 +147,27 @@ impl Rounds<'_> {
             let Some(place) = next else {
                 return;
             };
-            self.offer(gains, place);
+            if let Some(head) = self.offer(gains, place) {
+                self.turns.waiting.call(head, &self.relaxation);
+            }
             next = self.turns.before(place);
         }
     }
 
     // Raises the head of the constraint at a place, if there is one that gives it more. The head
-    // waits then. A tail above the cap hands nothing on.
-    fn offer(&mut self, gains: Gains, place: usize)
+    // waits then, and is answered. A tail above the cap hands nothing on.
+    fn offer(&mut self, gains: Gains, place: usize) -> Option<u32>
         ensures { HasRisen gains self.old self.new }
     {
         let Some(constraint) = self.relaxation.constraints.get(place) else {
-            return;
+            return None;
         };
         if self.relaxation.values[constraint.tail as usize] > CAP {
-            return;
+            return None;
         }
         let raised = self.relaxation.relax(place, gains);
-        self.turns.let_wait(raised);
+        self.turns.waiting.let_wait(raised);
+        raised
     }
 }
 

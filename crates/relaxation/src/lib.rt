@@ -9,6 +9,7 @@ mod relaxation;
 mod rounds;
 mod strong;
 mod turns;
+mod waiting;
 
 pub use gains::Gains;
 pub use relaxation::Relaxation;

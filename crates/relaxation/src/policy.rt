@@ -75,7 +75,7 @@ impl Rounds<'_> {
     pub(crate) fn lower(&mut self)
         ensures { AreSameRounds self.old self.new }
     {
-        if !self.turns.do_all_wait() {
+        if !self.turns.waiting.are_all() {
             return;
         }
         for register in 0..self.marks.len() {

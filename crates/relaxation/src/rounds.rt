@@ -30,7 +30,7 @@ impl<'a> Rounds<'a> {
     ///
     /// # Errors
     ///
-    /// There is no memory for the lists, 32 bytes for each register and 4 for each constraint.
+    /// There is no memory for the lists, 60 bytes for each register and 4 for each constraint.
     pub fn new(
         alloc: Global,
         registers: usize,
@@ -73,7 +73,7 @@ impl<'a> Rounds<'a> {
         ensures relaxation { self.new.relaxation ≡ self.old.relaxation }
         ensures marks { self.new.marks ≡ self.old.marks }
     {
-        self.turns.let_all_wait();
+        self.turns.waiting.let_all_wait();
     }
 
     /// The parent of a register, if it has one.

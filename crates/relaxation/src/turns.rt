@@ -1,6 +1,7 @@
 use crate::gains::Gains;
 use crate::relaxation::Relaxation;
 use crate::strong::{Strong, greatest_gain};
+use crate::waiting::Waiting;
 use cts_base::NoMemory;
 use cts_model::Constraint;
 use std::alloc::Global;
@@ -11,8 +12,12 @@ const MANY: usize = 64;
 /// How many times the greatest gain values are thought to lie apart.
 const TIMES: i128 = 2;
 
-/// Whose turn it is to raise others: the registers that wait to hand their values on, first in,
-/// first out, each once, with the constraints that lead from each.
+/// How many sweeps are taken at most. One against the order in which registers rise may settle a
+/// single one.
+const SWEEPS: u32 = 6;
+
+/// Whose turn it is to raise others: the registers that wait to hand their values on, with the
+/// constraints that lead from each.
 #[derive(Drop)]
 pub(crate) struct Turns {
     // For each register 1 more than the place of the last linked constraint that leads from it, or
@@ -25,24 +30,20 @@ pub(crate) struct Turns {
     pub(crate) strong: Option<Strong>,
     // How far apart values may lie, in ticks, for no other constraint to raise one.
     spread: i128,
-    // For each register 0 where it doesn't wait, else 1 more than the one that waits behind it, or
-    // than itself where it is the last.
-    behind: Vec<u32>,
-    first: u32,
-    last: u32,
-    // How many registers there are, and how many wait.
-    registers: u32,
-    waiting: u32,
-    // Whether they have many constraints.
+    pub(crate) waiting: Waiting,
+    // How many registers there are, and whether they have many constraints.
+    registers: usize,
     many: bool,
+    // How many sweeps were taken.
+    sweeps: u32,
 }
 
 impl Turns {
-    /// Each register waits, in the order of the numbers, and no constraint is linked yet.
+    /// Each register waits, and no constraint is linked yet.
     ///
     /// # Errors
     ///
-    /// There is no memory for the lists, 8 bytes for each register and 4 for each constraint.
+    /// There is no memory for the lists, 36 bytes for each register and 4 for each constraint.
     pub(crate) fn new(
         alloc: Global,
         relaxation: &Relaxation<'_>,
@@ -56,15 +57,12 @@ impl Turns {
             chosen: false,
             strong: None,
             spread: 0,
-            behind: vec![in alloc; 0u32; registers]?,
-            first: 0,
-            last: 0,
-            registers: registers as u32,
-            waiting: 0,
+            waiting: Waiting::new(alloc, registers)?,
+            registers,
             many: constraints.len() / MANY >= registers,
+            sweeps: 0,
         };
         turns.choose_at_first(constraints, gains);
-        turns.let_all_wait();
         Ok(turns)
     }
 
@@ -86,7 +84,7 @@ impl Turns {
     /// Whether no register waits, and no constraint that isn't linked raises one. Where values that
     /// are from 0 on lie too far apart for that, more are linked, and each register waits.
     pub(crate) fn are_through(&mut self, relaxation: &Relaxation<'_>, gains: Gains) -> bool {
-        if self.waiting > 0 {
+        if self.waiting.count() > 0 {
             return false;
         }
         let greatest = relaxation.values.iter().copied().max().unwrap_or(0);
@@ -95,7 +93,7 @@ impl Turns {
         }
         self.choose_within(relaxation.constraints, gains, greatest.wrapping_mul(2));
         self.link(relaxation.constraints);
-        self.let_all_wait();
+        self.waiting.let_all_wait();
         false
     }
 
@@ -154,58 +152,19 @@ impl Turns {
         }
     }
 
-    /// Lets each register wait. It takes no memory.
-    pub(crate) fn let_all_wait(&mut self) {
-        for register in 0..self.registers {
-            self.let_wait(Some(register));
-        }
-    }
-
-    /// Whether each register waits.
-    pub(crate) fn do_all_wait(&self) -> bool {
-        self.waiting == self.registers
-    }
-
     /// Whether all constraints are to be linked, and so many registers wait that a sweep is quicker
-    /// than their turns: half of them, or 1 of 32 where their constraints lie far apart.
-    pub(crate) fn do_many_wait(&self) -> bool {
+    /// than their turns, while few were taken: half of them, or 1 of 32 where their constraints lie
+    /// far apart.
+    pub(crate) fn is_sweep_quicker(&self) -> bool {
         let part = if self.many { 32 } else { 2 };
-        self.strong.is_none() && self.waiting >= self.registers / part
+        let many_wait = self.waiting.count() >= self.registers / part;
+        self.strong.is_none() && self.sweeps < SWEEPS && many_wait
     }
 
-    /// Lets no register wait any more.
-    pub(crate) fn clear(&mut self) {
-        self.behind.fill(0);
-        self.waiting = 0;
-    }
-
-    /// Lets a register wait behind all others, if there is one and it doesn't wait.
-    pub(crate) fn let_wait(&mut self, register: Option<u32>) {
-        let Some(register) = register else {
-            return;
-        };
-        let own = register.wrapping_add(1);
-        match self.behind.get_mut(register as usize) {
-            Some(behind) if *behind == 0 => *behind = own,
-            _ => return,
-        }
-        if self.waiting == 0 {
-            self.first = register;
-        } else if let Some(behind) = self.behind.get_mut(self.last as usize) {
-            *behind = own;
-        }
-        self.last = register;
-        self.waiting = self.waiting.wrapping_add(1);
-    }
-
-    /// The register that has waited longest. It waits no more.
-    pub(crate) fn next(&mut self) -> Option<u32> {
-        self.waiting = self.waiting.checked_sub(1)?;
-        let register = self.first;
-        let behind = self.behind.get_mut(register as usize)?;
-        self.first = behind.wrapping_sub(1);
-        *behind = 0;
-        Some(register)
+    /// Begins a sweep, in which each register hands its value on.
+    pub(crate) fn begin_sweep(&mut self) {
+        self.sweeps = self.sweeps.wrapping_add(1);
+        self.waiting.clear();
     }
 
     /// The place of the last linked constraint that leads from a register.
