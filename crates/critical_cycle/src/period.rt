@@ -54,7 +54,7 @@ pub fn least_period_in(
 ///
 /// # Errors
 ///
-/// There is no memory for the lists, 36 bytes for each register and 4 for each constraint.
+/// There is no memory for the lists, 64 bytes for each register and 4 for each constraint.
 pub fn least_period(
     alloc: Global,
     registers: usize,

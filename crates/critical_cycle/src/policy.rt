@@ -38,7 +38,7 @@ impl Policy<'_> {
 
     // One round, if some ratio may be enough: the rings of parents that gain raise the ratio, or
     // else registers have values by their parents and hand them on, in a sweep forwards or
-    // backwards. All wait where the ratio has become greater.
+    // backwards.
     fn improve(&mut self, forwards: bool) -> bool
         ensures { IsSameSearch self.old.search self.new.search }
     {
@@ -48,7 +48,6 @@ impl Policy<'_> {
             return true;
         }
         self.rounds.rescale(last, self.search.trial);
-        self.rounds.let_all_wait();
         self.search.try_shown()
     }
 

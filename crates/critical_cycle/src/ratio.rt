@@ -40,7 +40,7 @@ pub enum Ratio {
 ///
 /// # Errors
 ///
-/// There is no memory for the lists, 36 bytes for each register and 4 for each constraint.
+/// There is no memory for the lists, 64 bytes for each register and 4 for each constraint.
 pub fn greatest_ratio(
     alloc: Global,
     registers: usize,

@@ -38,13 +38,6 @@ scaled_fits value scale small some fine =
     409700000000 size (size_within 409700000000 scale (omega (arith, ints)) fine) (omega arith) in
     subst (FitsSigned w128) (sym (product_read value scale first second)) fits
 
--- and does so as the code keeps it
-pub scaled_kept : (value scale : ℤ) → IsBelow (2 ^ 88) value → pos 1 ≤ℤ scale
-    → scale ≤ℤ pos (4097 * 10 ^ 8) → FitsSigned w128 (kept (kept value *ℤ kept scale))
-scaled_kept value scale small some fine =
-    let fits = scaled_fits value scale small some fine in
-    subst (FitsSigned w128) (sym (to_z-of_z w128 (kept value *ℤ kept scale) fits)) fits
-
 module _ (gains : Gains) (weight : ℤ) (small : IsBelow (10 ^ 11) weight) where
   -- the scale's size
   scale_size : unsigned_abs gains.scale ≤ 409700000000

@@ -57,7 +57,7 @@ impl<'a> Relaxation<'a> {
         }
     }
 
-    /// Brings the values from the scale of the last gains to that of the next, rounded towards 0
+    /// Brings the values from the scale of the last gains to that of the next, rounded down
     /// and cut in size. Any values will do. It takes no memory.
     pub fn rescale(&mut self, last: Gains, next: Gains)
         ensures values { length self.new.values.items ≡ length self.old.values.items }
@@ -197,7 +197,8 @@ pub(crate) fn place_at(turn: usize, places: usize, forwards: bool) -> usize
     if forwards { turn } else { places - 1 - turn }
 }
 
-// A value at another scale, rounded and cut to a size below 2^88.
+// A value at another scale, rounded down and cut to a size below 2^88. Rounded down, values satisfy
+// every constraint that they satisfy unrounded, since gains are whole.
 fn rescaled(value: i128, last: Gains, next: Gains) -> i128
     ensures { IsBelow (2 ^ 88) result }
 {
@@ -205,7 +206,7 @@ fn rescaled(value: i128, last: Gains, next: Gains) -> i128
     if next.scale == last.scale || kept == 0 {
         return kept;
     }
-    cut(kept * next.scale / last.scale)
+    cut((kept * next.scale).div_euclid(last.scale))
 }
 
 /// The nearest value whose size is below 2^88.

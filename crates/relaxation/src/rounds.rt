@@ -52,12 +52,13 @@ impl<'a> Rounds<'a> {
         })
     }
 
-    /// Brings the values from the scale of the last gains to that of the next, rounded towards 0
-    /// and cut in size. It takes no memory.
+    /// Brings the values from the scale of the last gains to that of the next, rounded down
+    /// and cut in size. At a greater ratio they satisfy what they satisfied. It takes no memory.
     pub fn rescale(&mut self, last: Gains, next: Gains)
         ensures { AreSameRounds self.old self.new }
     {
         self.relaxation.rescale(last, next);
+        self.turns.waiting.have_handed_on(&self.relaxation);
     }
 
     /// Whether no register waits, and no constraint that isn't linked raises one. Where values that
@@ -66,14 +67,6 @@ impl<'a> Rounds<'a> {
         ensures { self.new.relaxation ≡ self.old.relaxation }
     {
         self.turns.are_through(&self.relaxation, gains)
-    }
-
-    /// Lets each register wait. It takes no memory.
-    pub fn let_all_wait(&mut self)
-        ensures relaxation { self.new.relaxation ≡ self.old.relaxation }
-        ensures marks { self.new.marks ≡ self.old.marks }
-    {
-        self.turns.waiting.let_all_wait();
     }
 
     /// The parent of a register, if it has one.

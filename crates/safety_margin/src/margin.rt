@@ -31,7 +31,7 @@ pub enum Margin {
 ///
 /// # Errors
 ///
-/// There is no memory for the lists, at most 36 bytes for each register and 4 for each
+/// There is no memory for the lists, at most 64 bytes for each register and 4 for each
 /// constraint.
 pub fn greatest_margin(
     alloc: Global,

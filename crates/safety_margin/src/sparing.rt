@@ -7,7 +7,7 @@ use relaxation::Gains;
 use schedule::least_arrivals;
 use std::alloc::Global;
 
-/// The least schedule that spares a margin at a period. It takes 32 bytes for each register and 4
+/// The least schedule that spares a margin at a period. It takes 60 bytes for each register and 4
 /// for each constraint.
 pub(crate) fn sparing_schedule(
     alloc: Global,

@@ -35,7 +35,7 @@ pub fn least_schedule_in(
 ///
 /// # Errors
 ///
-/// There is no memory for the lists, 32 bytes for each register and 4 for each constraint.
+/// There is no memory for the lists, 60 bytes for each register and 4 for each constraint.
 pub fn least_schedule(
     alloc: Global,
     registers: usize,
@@ -64,7 +64,7 @@ pub fn least_schedule(
 ///
 /// # Errors
 ///
-/// There is no memory for the lists, 32 bytes for each register and 4 for each constraint.
+/// There is no memory for the lists, 60 bytes for each register and 4 for each constraint.
 pub fn least_arrivals(
     alloc: Global,
     registers: usize,

@@ -1,6 +1,6 @@
--- Scales are above 0, so the quotient is no larger than the product.
-use Rattle.relaxation.proofs.Vocabulary.{FitsSigned, ℤ, ◌*ℤ◌, arith, ints, quot_fits, w128}
-use Rattle.relaxation.proofs.GainLemmas.{kept, scaled_fits, scaled_kept}
+-- Scales are above 0 and small, so the product fits.
+use Rattle.relaxation.proofs.Vocabulary.{arith, ints}
+use Rattle.relaxation.proofs.GainLemmas.{scaled_fits}
 use Rattle.relaxation.proofs.relaxation.rescaled.Goals as goal
 
 pub overflow_mul-kept : goal.overflow_mul-kept
@@ -8,12 +8,6 @@ overflow_mul-kept c =
     let next = c.args.next.valid in
     scaled_fits c.cut-kept.result c.args.next.scale c.cut-kept.ensures next.some next.fine
 
-pub nonzero_div-kept : goal.nonzero_div-kept
-nonzero_div-kept c =
-    let next = c.args.next.valid in
-    let product : ℤ = kept (kept c.cut-kept.result *ℤ kept c.args.next.scale) in
-    let fits : FitsSigned w128 product =
-    scaled_kept c.cut-kept.result c.args.next.scale c.cut-kept.ensures next.some next.fine in (
-      omega (arith, ints),
-      quot_fits w128 product (kept c.args.last.scale) fits (omega (arith, ints)),
-    )
+pub div_euclid-requires-clause-no_overflow : goal.div_euclid-requires-clause-no_overflow
+div_euclid-requires-clause-no_overflow c =
+    let last = c.args.last.valid in λ minus_one _. omega (arith, ints, last.some, last.fine, minus_one)
