@@ -11,7 +11,8 @@ const CAP: i128 = 1 << 93;
 
 impl Rounds<'_> {
     /// Raises values along parents, and by registers that hand theirs on in turn, until no register
-    /// waits or there were as many rounds as there are registers. It takes no memory.
+    /// waits or there were as many rounds as there are registers. A pass takes memory for those whose
+    /// turn comes, and does with what it gets.
     pub fn raise(&mut self, gains: Gains)
         ensures { HasRisen gains self.old self.new }
     {
@@ -25,7 +26,8 @@ impl Rounds<'_> {
     }
 
     /// Gives each register a value by its parents, from new ones where each register waits, and
-    /// lets those that wait hand theirs on, many by one sweep, forwards or not. It takes no memory.
+    /// lets those that wait hand theirs on, many by one sweep, forwards or not, or else in a pass,
+    /// which takes memory for those whose turn comes, and does with what it gets.
     pub fn take_round(&mut self, gains: Gains, forwards: bool)
         ensures { AreSameRounds self.old self.new }
     {
