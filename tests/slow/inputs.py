@@ -1,0 +1,115 @@
+#!/usr/bin/env python3
+"""Makes inputs that hurt, each beside an ordinary one of its size: `inputs.py FOLDER [NAMES]` writes FOLDER/KIND.slow.bench and
+FOLDER/KIND.usual.bench, with a delay table and, where a placement is what hurts, a placement beside each. NAMES is a file of names
+that collide; without it those kinds are left out."""
+
+import random
+import sys
+
+FLOOR = 100_000
+
+
+def table(kinds, setup=0, floor=0):
+    lines = ['[wire]', 'delay = "1"', '[source]', 'place = "CLK"', '[period]', f"floor = {floor}", "[register]"]
+    lines += [f"setup = {setup}", "hold = 0", "least = 0", "greatest = 0"]
+    for kind, (delay, by_input) in kinds.items():
+        lines += [f"[gate.{kind}]", f"least = {delay}", f"greatest = {delay}"]
+        lines += [f"least_per_input = {by_input}", f"greatest_per_input = {by_input}"]
+    return "\n".join(lines) + "\n"
+
+
+def zigzag_order(length):
+    """The places of a chain's registers in the file: the next one always stands on the other side, against each sweep."""
+    places = [length - 1 - step // 2 if step % 2 == 0 else step // 2 for step in range(length)]
+    return sorted(range(length), key=lambda step: places[step])
+
+
+def chain(length, each, joined, hub_joined, raised):
+    """A chain of registers that are raised one after the other, by `raised` ticks. Each `each`-th raises a hub by a tick more, which
+    raises `joined` registers, all joined with one another or alone, beside as many that are all joined and cold."""
+    lines = ["INPUT(x)", "s = DFF(x)", "b = DFF(x)"]
+    lines += [f"c{step} = DFF(g{step})" for step in zigzag_order(length)]
+    lines += ["h = DFF(x0)", "z = NOT(s)", "q = XOR(b)", "m = NAND(h)"]
+    for step in range(length):
+        lines.append(f"g{step} = AND({f'p{step}' if step else 'z'}, q)")
+        if step:
+            lines.append(f"p{step} = NAND(c{step - 1})")
+        if step % each == 0:
+            lines.append(f"y{step} = XNOR(c{step})")
+            lines.append(f"x{step} = OR(y{step}{f', x{step + each}' if step + each < length else ''})")
+    lines += [f"d{one} = DFF({'v' if hub_joined else 'm'})" for one in range(joined)]
+    all_joined = "d" if hub_joined else "k"
+    if not hub_joined:
+        lines += [f"k{one} = DFF(w)" for one in range(joined)]
+    lines.append("w = NOR(" + ", ".join(f"{all_joined}{one}" for one in range(joined)) + ")")
+    if hub_joined:
+        lines.append("v = AND(m, w)")
+    kinds = {"NAND": FLOOR, "NOT": FLOOR + raised, "XOR": FLOOR + 1, "AND": 0, "XNOR": FLOOR - length - 1, "OR": 1, "NOR": FLOOR // 2}
+    return lines, table({kind: (delay, 0) for kind, delay in kinds.items()}, floor=FLOOR)
+
+
+def rings(ascending, outward, joined, slow):
+    """Rings of two registers, each with a ratio of its own or all with one, beside registers that are all joined."""
+    ranks = list(range(ascending)) + [ascending + one for one in range(0, outward, 2)]
+    ranks += [ascending + one for one in range(outward - 1 - outward % 2, 0, -2)]
+    lines = ["INPUT(x)"]
+    for ring in range(len(ranks)):
+        lines += [f"a{ring} = DFF(f{ring})", f"b{ring} = DFF(g{ring})"]
+    lines += [f"k{one} = DFF(w)" for one in range(joined)]
+    lines.append("w = NOR(" + ", ".join(f"k{one}" for one in range(joined)) + ")")
+    for ring, rank in enumerate(ranks):
+        low, high = (rank % 40, rank // 40) if slow else (20, 20)
+        lines.append(f"f{ring} = AND(" + ", ".join([f"b{ring}"] * (low + 1)) + ")")
+        lines.append(f"g{ring} = OR(" + ", ".join([f"a{ring}"] * (high + 1)) + ")")
+    return lines, table({"AND": (1000, 1), "OR": (1000, 40), "NOR": (500, 0)})
+
+
+def netlist_of_names(names):
+    """Registers and gates of these names, and many lines that name one of them."""
+    registers, gates = names[: len(names) // 2], names[len(names) // 2 :]
+    lines = [f"{register} = DFF({gates[place]})" for place, register in enumerate(registers)]
+    lines += [f"{gate} = NOT({registers[place]})" for place, gate in enumerate(gates)]
+    return lines + [f"OUTPUT({gates[-1]})"] * 60_000, table({"NOT": (1, 0)})
+
+
+def placement_of_names(names):
+    """Registers of these names, and a placement that names another one many times."""
+    lines = ["INPUT(x)"] + [f"{name} = DFF(x)" for name in names[:4095]]
+    places = ["CLK 0 0"] + [f"{name} {place} 0" for place, name in enumerate(names[:4095])]
+    return lines, table({}, setup=1), places + [f"{names[4095]} 0 0"] * 60_000
+
+
+def table_with(line):
+    return ["INPUT(x)", "r = DFF(x)"], table({}, setup=1) + line + "\n"
+
+
+def write(base, lines, delays, places=None):
+    for ending, text in (("bench", "\n".join(lines) + "\n"), ("toml", delays), ("pl", places and "\n".join(places) + "\n")):
+        if text is not None:
+            with open(f"{base}.{ending}", "w") as file:
+                file.write(text)
+
+
+def main(folder, names_file=None):
+    long_name = "a" * 16_000_000
+    pairs = {
+        "zigzag": (chain(600, 1, 400, False, 60_000), chain(600, 1, 400, False, 0)),
+        "hub": (chain(800, 1, 300, True, 60_000), chain(800, 1, 300, True, 0)),
+        "far_hub": (chain(800, 3, 300, True, 60_000), chain(800, 3, 300, True, 0)),
+        "rings": (rings(200, 400, 400, True), rings(200, 400, 400, False)),
+        "long_key": (table_with(f"{long_name} = 1"), table_with(f"# {long_name}")),
+    }
+    if names_file:
+        with open(names_file) as file:
+            names = sorted(set(file.read().split()))
+        random.Random(3).shuffle(names)
+        others = [f"n{place:06}" for place in range(len(names))]
+        pairs["names"] = (netlist_of_names(names), netlist_of_names(others))
+        pairs["placed_names"] = (placement_of_names(names), placement_of_names(others))
+    for kind, (slow, usual) in pairs.items():
+        write(f"{folder}/{kind}.slow", *slow)
+        write(f"{folder}/{kind}.usual", *usual)
+
+
+if __name__ == "__main__":
+    main(*sys.argv[1:])
