@@ -1,5 +1,5 @@
 -- Why a command isn't done: the exit status and the line on the error output of each failure.
-use Rattle.std.specs.Prelude.{◌≡◌, ◌≤◌, ℕ, List, [], ◌∷◌, ◌++◌, ◌⊎◌, Option, Result, MatchResult, if◌then◌else◌, ◌&&◌, nat_le, codes, decimal, get_or}
+use Rattle.std.specs.Prelude.{◌≡◌, ℕ, List, [], ◌∷◌, ◌++◌, ◌⊎◌, Option, if◌then◌else◌, ◌&&◌, nat_le, codes, decimal, get_or}
 use Rattle.std.specs.List.{flat_map}
 use Rattle.cts_io.specs.Device.{Rose, appended, WritesPrefix}
 use Rattle.bench_reader.specs.declared.fault.Which.{Which}
@@ -114,11 +114,3 @@ failure_line failure = failure_text failure ++ 10 ∷ []
 abbrev pub Reports : List ℕ → Option (List ℕ) → ℕ → Option (List ℕ) → ℕ → Type 0
 Reports line before faults_before now faults_now = (now ≡ appended before line)
     ⊎ (WritesPrefix before line now × Rose faults_before faults_now)
-
--- what a call that writes bytes answers: they stand whole after what was written before, or a
--- prefix of them where the sink failed, whose count of faults rose
-abbrev pub Writes : {T E : Type 0} → List ℕ → Option (List ℕ) → ℕ → Option (List ℕ) → ℕ
-    → Result T E → Type 0
-Writes bytes before faults_before now faults_now result =
-    MatchResult result (λ _. (now ≡ appended before bytes) × (faults_before ≤ faults_now))
-    (λ _. WritesPrefix before bytes now × Rose faults_before faults_now)

@@ -1,3 +1,4 @@
 pub mod Failures
+pub mod Line
 pub mod Refusals
 pub mod Vocabulary

@@ -2,11 +2,13 @@
 
 ghost use Rattle.std.specs.Prelude.{◌≡◌};
 ghost use Rattle.failure_lines.specs.Failures.{status_of, reason_text, refused_text, failure_text, failure_line, Reports};
+ghost use Rattle.failure_lines.specs.Line.{Puts};
 
 use crate::file_kind::FileKind;
-use crate::pieces::{Piece, write_both, write_each, write_number};
+use crate::line::Line;
+use crate::pieces::{Piece, put_both, put_each, put_number};
 use crate::words::Words;
-use cts_io::{Failed, Sink};
+use cts_io::Sink;
 
 /// Why a command isn't done.
 #[derive(Debug, Drop)]
@@ -74,41 +76,42 @@ impl Failure {
         }
     }
 
-    /// Writes the line that says why, piece by piece and without memory. A sink that fails ends it:
-    /// there is nowhere else to tell of that.
+    /// Writes the line that says why, without memory: at once where it has at most 4,096 bytes, and
+    /// else in pieces of so many. A sink that fails ends it: there is nowhere else to tell of that.
     pub fn report<E: Sink>(&self, err: &mut E)
         ensures { Reports (failure_line self.now)
             (E.written err.old) (E.faults err.old) (E.written err.new) (E.faults err.new) }
     {
-        let end: &[u8] = b"\n";
-        let _ = write_both(self, &end, err);
+        let mut line = Line::new();
+        self.put(&mut line, err);
+        line.push(b'\n', err);
+        line.flush(err);
     }
 }
 
 impl Piece for Failure {
     ghost text = { failure_text };
 
-    fn write<E: Sink>(&self, err: &mut E) -> Result<(), Failed> {
+    fn put<E: Sink>(&self, line: &mut Line, err: &mut E) {
         match self {
-            Failure::Usage => write_each(&[USAGE], err),
-            Failure::TooLong(kind) => write_both(kind, &b" long".as_slice(), err),
+            Failure::Usage => USAGE.put(line, err),
+            Failure::TooLong(kind) => put_both(kind, &b" long".as_slice(), line, err),
             Failure::Refused(kind, number, words) => {
-                kind.write(err)?;
-                write_number(b" ", *number, b"", err)?;
-                words.write(err)
+                kind.put(line, err);
+                put_number(b" ", *number, b"", line, err);
+                words.put(line, err);
             }
-            Failure::CornerHost(number) => write_number(b"refused corner ", *number, b" host", err),
-            Failure::Pairs => write_each(&[b"refused pairs".as_slice()], err),
+            Failure::CornerHost(number) => {
+                put_number(b"refused corner ", *number, b" host", line, err);
+            }
+            Failure::Pairs => b"refused pairs".as_slice().put(line, err),
             Failure::Unshown(number, words) => {
-                write_number(b"not shown ", *number, reason_text(*number), err)?;
-                words.write(err)
+                put_number(b"not shown ", *number, reason_text(*number), line, err);
+                words.put(line, err);
             }
-            Failure::ReadFault(FileKind::Corner(number)) => {
-                write_number(b"read fault corner ", *number, b"", err)
-            }
-            Failure::ReadFault(kind) => write_each(&[b"read fault ", kind.word()], err),
-            Failure::WriteFault => write_each(&[b"write fault".as_slice()], err),
-            Failure::NoMemory => write_each(&[b"no memory".as_slice()], err),
+            Failure::ReadFault(kind) => put_read_fault(*kind, line, err),
+            Failure::WriteFault => b"write fault".as_slice().put(line, err),
+            Failure::NoMemory => b"no memory".as_slice().put(line, err),
         }
     }
 }
@@ -117,12 +120,26 @@ impl Piece for Failure {
 impl Piece for FileKind {
     ghost text = { refused_text };
 
-    fn write<E: Sink>(&self, err: &mut E) -> Result<(), Failed> {
+    fn put<E: Sink>(&self, line: &mut Line, err: &mut E) {
         match self {
-            FileKind::Report => b"not shown report".as_slice().write(err),
-            FileKind::Corner(number) => write_number(b"refused corner ", *number, b" tech", err),
-            kind => write_each(&[b"refused ", kind.word()], err),
+            FileKind::Report => b"not shown report".as_slice().put(line, err),
+            FileKind::Corner(number) => {
+                put_number(b"refused corner ", *number, b" tech", line, err);
+            }
+            kind => put_each(&[b"refused ", kind.word()], line, err),
         }
+    }
+}
+
+// Puts that a file of this kind couldn't be read.
+fn put_read_fault<E: Sink>(kind: FileKind, line: &mut Line, err: &mut E)
+    ensures { Puts (failure_text (Failure.ReadFault kind))
+        (line.old, E.written err.old, E.faults err.old)
+        (line.new, E.written err.new, E.faults err.new) }
+{
+    match kind {
+        FileKind::Corner(number) => put_number(b"read fault corner ", number, b"", line, err),
+        kind => put_each(&[b"read fault ", kind.word()], line, err),
     }
 }
 

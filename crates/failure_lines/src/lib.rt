@@ -4,6 +4,7 @@
 
 mod failure;
 mod file_kind;
+mod line;
 mod pieces;
 mod refusals;
 mod words;

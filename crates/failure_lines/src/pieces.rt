@@ -1,10 +1,11 @@
-//! The pieces of a line, which are written one after the other.
+//! The pieces of a line, which are put one after the other.
 
 ghost use Rattle.std.specs.Prelude.{◌≡◌, ℕ, List, ◌++◌, ◌∷◌, [], decimal};
-ghost use Rattle.failure_lines.specs.Vocabulary.{flat_map, printable_byte, Writes};
+ghost use Rattle.failure_lines.specs.Vocabulary.{flat_map, printable_byte, Puts};
 
+use crate::line::Line;
 use cts_base::Name;
-use cts_io::{Failed, Sink, write_whole};
+use cts_io::Sink;
 use itoa::Buffer;
 
 // A piece of a line: bytes as they are, a byte of a text that may have any, or a name, which stands
@@ -12,72 +13,77 @@ use itoa::Buffer;
 pub(crate) trait Piece {
     ghost text: { Self → List ℕ };
 
-    fn write<E: Sink>(&self, err: &mut E) -> Result<(), Failed>
-        ensures { Writes (text self.now)
-            (E.written err.old) (E.faults err.old) (E.written err.new) (E.faults err.new) result };
+    fn put<E: Sink>(&self, line: &mut Line, err: &mut E)
+        ensures { Puts (text self.now) (line.old, E.written err.old, E.faults err.old)
+            (line.new, E.written err.new, E.faults err.new) };
 }
 
 impl<'a> Piece for &'a [u8] {
     ghost text = { λ piece. piece.now };
 
-    fn write<E: Sink>(&self, err: &mut E) -> Result<(), Failed> {
-        write_whole(err, self)
+    fn put<E: Sink>(&self, line: &mut Line, err: &mut E) {
+        for byte in *self {
+            line.push(*byte, err);
+        }
     }
 }
 
 impl Piece for u8 {
     ghost text = { λ byte. printable_byte byte ∷ [] };
 
-    fn write<E: Sink>(&self, err: &mut E) -> Result<(), Failed> {
-        write_whole(err, &[shown_byte(*self)])
+    fn put<E: Sink>(&self, line: &mut Line, err: &mut E) {
+        line.push(shown_byte(*self), err);
     }
 }
 
 impl Piece for Name {
     ghost text = { λ name. 32 ∷ name };
 
-    fn write<E: Sink>(&self, err: &mut E) -> Result<(), Failed> {
-        write_each(&[b" ", self.as_slice()], err)
+    fn put<E: Sink>(&self, line: &mut Line, err: &mut E) {
+        put_each(&[b" ", self.as_slice()], line, err);
     }
 }
 
-// Writes pieces, one after the other.
-pub(crate) fn write_each<P: Piece, E: Sink>(pieces: &[P], err: &mut E) -> Result<(), Failed>
-    ensures { Writes (flat_map P.text pieces.now)
-        (E.written err.old) (E.faults err.old) (E.written err.new) (E.faults err.new) result }
+// Puts pieces, one after the other.
+pub(crate) fn put_each<P: Piece, E: Sink>(pieces: &[P], line: &mut Line, err: &mut E)
+    ensures { Puts (flat_map P.text pieces.now) (line.old, E.written err.old, E.faults err.old)
+        (line.new, E.written err.new, E.faults err.new) }
 {
     for piece in pieces {
-        piece.write(err)?;
+        piece.put(line, err);
     }
-    Ok(())
 }
 
-// Writes two pieces, one after the other.
-pub(crate) fn write_both<P: Piece, Q: Piece, E: Sink>(
+// Puts two pieces, one after the other.
+pub(crate) fn put_both<P: Piece, Q: Piece, E: Sink>(
     first: &P,
     second: &Q,
+    line: &mut Line,
     err: &mut E,
-) -> Result<(), Failed>
-    ensures { Writes (P.text first.now ++ Q.text second.now)
-        (E.written err.old) (E.faults err.old) (E.written err.new) (E.faults err.new) result }
+)
+    ensures { Puts (P.text first.now ++ Q.text second.now)
+        (line.old, E.written err.old, E.faults err.old)
+        (line.new, E.written err.new, E.faults err.new) }
 {
-    first.write(err)?;
-    second.write(err)
+    first.put(line, err);
+    second.put(line, err);
 }
 
-// Writes a number between other bytes.
-pub(crate) fn write_number<E: Sink>(
+// Puts a number between other bytes.
+pub(crate) fn put_number<E: Sink>(
     before: &[u8],
     number: u32,
     after: &[u8],
+    line: &mut Line,
     err: &mut E,
-) -> Result<(), Failed>
-    ensures { Writes (before.now ++ decimal number ++ after.now)
-        (E.written err.old) (E.faults err.old) (E.written err.new) (E.faults err.new) result }
+)
+    ensures { Puts (before.now ++ decimal number ++ after.now)
+        (line.old, E.written err.old, E.faults err.old)
+        (line.new, E.written err.new, E.faults err.new) }
 {
     let mut buffer = Buffer::new();
     let number = buffer.format(number).as_bytes();
-    write_each(&[before, number, after], err)
+    put_each(&[before, number, after], line, err);
 }
 
 fn shown_byte(byte: u8) -> u8

@@ -3,10 +3,11 @@
 ghost use Rattle.std.specs.Prelude.{◌≡◌};
 ghost use Rattle.failure_lines.specs.Vocabulary.{word_of, limit_word, number_word, words_text};
 
-use crate::pieces::{Piece, write_each, write_number};
+use crate::line::Line;
+use crate::pieces::{Piece, put_each, put_number};
 use bench_reader::Which;
 use cts_base::{Listed, Name, NumberFault};
-use cts_io::{Failed, Sink, write_whole};
+use cts_io::Sink;
 use cts_model::Kind;
 
 /// What the line of a refusal says after the number of the fault. Lines are counted from 1.
@@ -35,20 +36,24 @@ pub enum Words {
 impl Piece for Words {
     ghost text = { words_text };
 
-    fn write<E: Sink>(&self, err: &mut E) -> Result<(), Failed> {
+    fn put<E: Sink>(&self, line: &mut Line, err: &mut E) {
         match self {
-            Words::Nothing => b"".as_slice().write(err),
-            Words::Line(line) => write_number(b" line ", *line, b"", err),
-            Words::Limit(line, which) => write_number(b" line ", *line, limit_word(*which), err),
-            Words::Number(line, fault) => write_number(b" line ", *line, number_word(*fault), err),
-            Words::Key(key) => {
-                write_whole(err, b" ")?;
-                write_each(key.as_slice(), err)
+            Words::Nothing => {}
+            Words::Line(number) => put_number(b" line ", *number, b"", line, err),
+            Words::Limit(number, which) => {
+                put_number(b" line ", *number, limit_word(*which), line, err);
             }
-            Words::Gate(gate) => write_each(&[b" ", gate_word(*gate)], err),
-            Words::Register(name) => name.write(err),
-            Words::Loop(names) => write_each(names.as_slice(), err),
-            Words::Place(place) => write_number(b" ", *place, b"", err),
+            Words::Number(number, fault) => {
+                put_number(b" line ", *number, number_word(*fault), line, err);
+            }
+            Words::Key(key) => {
+                line.push(b' ', err);
+                put_each(key.as_slice(), line, err);
+            }
+            Words::Gate(gate) => put_each(&[b" ", gate_word(*gate)], line, err),
+            Words::Register(name) => name.put(line, err),
+            Words::Loop(names) => put_each(names.as_slice(), line, err),
+            Words::Place(place) => put_number(b" ", *place, b"", line, err),
         }
     }
 }
