@@ -6,7 +6,6 @@ mod FanIns
 mod FlawlessLines
 mod Hostless
 mod InputLemmas
-mod Keys
 mod KindLemmas
 mod ValidDefinitions
 mod LineStatements

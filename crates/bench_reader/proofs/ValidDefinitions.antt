@@ -1,9 +1,16 @@
 -- What the definitions of lines without a fault keep.
-use Rattle.bench_reader.proofs.Vocabulary.{◌≡◌, ◌≢◌, ℕ, ◌≤◌, ◌<◌, Bool, true, false, nat_le, nat_lt, if◌then◌else◌, ◌&&◌, List, [], ◌∷◌, ◌++◌, length, Option, Some, None, All, AllPairs, Contains, IsTrue, refl, ◌∙◌, subst, arith, append_assoc, append-nil, option_map_or, option_and_then, nat_tests, length_push, length-map, get_or-map, All-nil, All-push, Contains-get_or, all_pairs_push, first_fault_after, neither, is_name, is_short, is_valid, Definition, definition_of, definitions_in, defined_names, register_count, gate_input_count, has_valid_inputs, is_defined_before, definition_excess, bench_line_fault, Signals, Registers, Inputs}
+use Rattle.bench_reader.proofs.Vocabulary.{◌≡◌, ◌≢◌, bytes_eq, list_any, ℕ, ◌≤◌, ◌<◌, Bool, true, false, nat_le, nat_lt, if◌then◌else◌, ◌&&◌, List, [], ◌∷◌, ◌++◌, length, Option, Some, None, All, AllPairs, Contains, IsTrue, refl, ◌∙◌, subst, arith, append_assoc, append-nil, option_map_or, option_and_then, nat_tests, length_push, length-map, get_or-map, All-nil, All-push, Contains-get_or, all_pairs_push, first_fault_after, neither, is_name, is_short, is_valid, Definition, definition_of, definitions_in, defined_names, register_count, gate_input_count, has_valid_inputs, is_defined_before, definition_excess, bench_line_fault, Signals, Registers, Inputs}
 use Rattle.bench_reader.proofs.LineStatements.{definitions_push_some, definitions_push_none}
 use Rattle.bench_reader.proofs.FlawlessLines.{IsSoundLine, sound_line}
 use Rattle.bench_reader.proofs.StatementNames.{defined_name}
-use Rattle.bench_reader.proofs.Keys.{absent_from_any}
+use Rattle.std.specs.Cmp.Lexicographic.{nat_list_eq_equiv}
+use Rattle.std.proofs.lemmas.Map.Views.{list_any-from_Contains}
+
+-- a name that no name equals isn't among them
+absent_from_any : (names : List (List ℕ)) (name : List ℕ)
+    → list_any (bytes_eq name) names ≡ false → Contains names name → ⊥
+absent_from_any names name none there =
+    let found = list_any-from_Contains nat_list_eq_equiv name names there in grind (arith, found)
 
 -- a name that is short enough
 abbrev pub HasName : List ℕ → Type 0

@@ -4,12 +4,12 @@ ghost use Rattle.bench_reader.specs.Vocabulary.{filter_map, IsFaultOf, first_fau
 use crate::BenchFault;
 use crate::input_list::InputList;
 use crate::kinds::kind_of;
-use crate::names::Names;
 use crate::said::{Reading, Said};
 use crate::statement::Statement;
 use cts_base::{Listed, NoMemory};
 use cts_model::{FanIn, Kind, Signal};
 use indexmap::IndexSet;
+use name_set::{HashKey, NameSet};
 use std::alloc::Global;
 
 /// What the lines so far tell.
@@ -19,22 +19,22 @@ pub(crate) struct CircuitParts {
     /// The signal number of each register.
     pub(crate) registers: Listed<u32>,
     /// The signal number of each primary output, where it is first mentioned.
-    pub(crate) outputs: IndexSet<u32>,
+    pub(crate) outputs: IndexSet<u32, HashKey>,
 }
 
 impl CircuitParts {
-    fn new(alloc: Global) -> CircuitParts
+    fn new(alloc: Global, key: HashKey) -> CircuitParts
         ensures { (names : List (List ℕ)) → HasParts names result [] }
     {
         CircuitParts {
             signals: Listed::new(alloc),
             registers: Listed::new(alloc),
-            outputs: IndexSet::new(alloc),
+            outputs: IndexSet::with_hasher(alloc, key),
         }
     }
 
     // Takes in what a line says.
-    fn add(&mut self, alloc: Global, names: &Names, said: &Said) -> Result<(), BenchFault>
+    fn add(&mut self, alloc: Global, names: &NameSet, said: &Said) -> Result<(), BenchFault>
         requires kind { has_kind (said_by said.now.statement) ≡ true }
         requires few { length self.old.signals ≤ 65536 }
         ensures denoted { OnOk result ((earlier : List (List ℕ)) (line : List ℕ)
@@ -88,7 +88,7 @@ impl CircuitParts {
     }
 
     // Takes in that the line of this number mentions a name as a primary output.
-    fn add_output(&mut self, names: &Names, name: &[u8], number: u32) -> Result<(), BenchFault>
+    fn add_output(&mut self, names: &NameSet, name: &[u8], number: u32) -> Result<(), BenchFault>
         ensures signals { OnOk result (self.new.signals ≡ self.old.signals) }
         ensures registers { OnOk result (self.new.registers ≡ self.old.registers) }
         ensures outputs { OnOk result (IsSomeAnd (number_of names.now name.now)
@@ -106,7 +106,7 @@ impl CircuitParts {
 // The numbers of the names that a signal reads, which the line of this number defines.
 fn fan_in(
     alloc: Global,
-    names: &Names,
+    names: &NameSet,
     inputs: &InputList,
     number: u32,
 ) -> Result<FanIn, BenchFault>
@@ -132,7 +132,7 @@ pub(crate) fn read_parts(alloc: Global, reading: &Reading) -> Result<CircuitPart
     ensures refused { IfErr result (IsFaultOf BenchFault.NoMemory
         (first_fault (use_fault reading.now.names) reading.now.text.now)) }
 {
-    let mut parts = CircuitParts::new(alloc);
+    let mut parts = CircuitParts::new(alloc, reading.names.key());
     for place in 0..reading.said.len() {
         parts.add(alloc, &reading.names, &reading.said[place])?;
     }

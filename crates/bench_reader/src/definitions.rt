@@ -7,11 +7,14 @@ ghost use Rattle.bench_reader.specs.declared.fault.Which.{Which};
 ghost use Rattle.bench_reader.specs.View.{said_by};
 
 use crate::kinds::{kind_of, may_have};
-use crate::names::Names;
 use crate::statement::Statement;
 use crate::{BenchFault, Which};
 use cts_model::Kind;
+use name_set::{HashKey, NameSet};
 use std::alloc::Global;
+
+// The most signals that a netlist defines.
+const MAX_SIGNALS: usize = 65536;
 
 // The most registers that a netlist defines.
 const MAX_REGISTERS: u32 = 4096;
@@ -22,7 +25,7 @@ const MAX_GATE_INPUTS: usize = 262_144;
 /// What the lines so far define.
 #[derive(Drop)]
 pub(crate) struct Definitions<'a> {
-    pub(crate) names: Names<'a>,
+    pub(crate) names: NameSet<'a>,
     registers: u32,
     gate_inputs: usize,
     ghost few_registers: { registers ≤ 4096 },
@@ -32,12 +35,12 @@ pub(crate) struct Definitions<'a> {
 impl<'a> Definitions<'a> {
     ghost use Rattle.bench_reader.specs.Taken.{HasDefinitions, Adds, excess_after, fault_after};
 
-    /// No definitions yet. It takes no memory.
-    pub(crate) fn new(alloc: Global) -> Definitions<'a>
+    /// No definitions yet, of names under this key. It takes no memory.
+    pub(crate) fn new(alloc: Global, key: HashKey) -> Definitions<'a>
         ensures { HasDefinitions result [] }
     {
         Definitions {
-            names: Names::new(alloc),
+            names: NameSet::new(alloc, key),
             registers: 0,
             gate_inputs: 0,
         }
@@ -89,13 +92,13 @@ impl<'a> Definitions<'a> {
             (fault_after number self.old name.now kind inputs short)) }
     {
         if let Some(which) = self.excess(kind, inputs, short) {
-            return Err(if self.names.is_defined(name) {
+            return Err(if self.names.contains(name) {
                 BenchFault::SignalTwice(number)
             } else {
                 BenchFault::TooLarge(number, which)
             });
         }
-        if !self.names.define(name)? {
+        if !self.names.insert(name)? {
             return Err(BenchFault::SignalTwice(number));
         }
         self.registers += register_count(kind);
@@ -110,7 +113,7 @@ impl<'a> Definitions<'a> {
     {
         if !short {
             Some(Which::Name)
-        } else if self.names.is_full() {
+        } else if self.names.len() >= MAX_SIGNALS {
             Some(Which::Signals)
         } else if register_count(kind) > MAX_REGISTERS - self.registers {
             Some(Which::Registers)

@@ -6,7 +6,6 @@ mod definitions;
 mod fault;
 mod input_list;
 mod kinds;
-mod names;
 mod read;
 mod reading;
 mod said;

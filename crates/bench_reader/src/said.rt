@@ -1,7 +1,7 @@
 ghost use Rattle.bench_reader.specs.Said.{IsReading};
 
-use crate::names::Names;
 use crate::statement::Statement;
+use name_set::NameSet;
 
 /// What a line of a netlist says, where it isn't blank.
 #[derive(Drop)]
@@ -15,7 +15,7 @@ pub(crate) struct Said<'a> {
 #[derive(Drop)]
 pub(crate) struct Reading<'a> {
     pub(crate) text: &'a [u8],
-    pub(crate) names: Names<'a>,
+    pub(crate) names: NameSet<'a>,
     pub(crate) said: Vec<Said<'a>>,
     pub ghost valid: { IsReading text.now names said.items },
 }

@@ -1,2 +1,3 @@
+pub mod HashedWords
 pub mod OneName
 pub mod NameNumbers

@@ -1,12 +1,12 @@
 -- Names by their numbers: as the keys of a set, and as those of a circuit's registers.
-use Rattle.std.proofs.Common.{◌≡◌, ◌<◌, ◌+◌, ℕ, Bool, true, false, not, cond, List, [], ◌∷◌, ◌++◌, map, get_or, length, position, Some, None, refl, sym, ap, ◌∙◌, arith}
+use Rattle.std.proofs.Common.{◌≡◌, ◌<◌, ◌+◌, ℕ, Bool, true, false, not, cond, if◌then◌else◌, List, [], ◌∷◌, ◌++◌, map, get_or, length, position, Some, None, refl, sym, ap, ◌∙◌, arith}
 use Rattle.std.specs.List.{list_any, position_or_len, range_with_len}
 use Rattle.std.specs.Str.{bytes_eq}
 use Rattle.std.proofs.lemmas.Bool.{false_from_ne_true}
 use Rattle.std.proofs.lemmas.Bool.Decides.{nat_tests}
 use Rattle.std.proofs.lemmas.List.{length-map, map_push}
 use Rattle.std.proofs.lemmas.List.Folds.{list_any_none}
-use Rattle.std.proofs.lemmas.List.FromFn.{get_or-map-range_with_len, length-map-range_with_len}
+use Rattle.std.proofs.lemmas.List.FromFn.{get_or-map-range_with_len, length-map-range_with_len, map-range_with_len_more}
 use Rattle.std.proofs.lemmas.List.Quantifiers.{position-Some}
 use Rattle.std.proofs.lemmas.List.Sums.{fails_before_first, prefix_len-le-length}
 use Rattle.std.proofs.lemmas.Slice.Eq.{bytes_eq-Decides}
@@ -14,6 +14,7 @@ use Rattle.cts_base.proofs.ListTests.{list_any-map}
 use Rattle.indexmap.specs.IndexSet.{insert_key}
 use Rattle.cts_model.specs.declared.circuit.Circuit.{Circuit}
 use Rattle.cts_model.specs.Vocabulary.{register_name}
+use Rattle.name_set.specs.Names.{with_name}
 use Rattle.name_set.proofs.OneName.{few_registers, one_register}
 
 -- ---- keys
@@ -30,16 +31,21 @@ module _ {X Y : Type 0} (f : X → Y) (test : Y → Bool) where
   pub position-map : (xs : List X) → position test (map f xs) ≡ position (λ x. test (f x)) xs
   position-map xs = rw (position_or_len-map xs, length-map xs f) refl
 
--- a name that no key has comes last
-pub insert_key-last : {X : Type 0} (bytes : X → List ℕ) (keys new : List X) (key : X)
-    (name : List ℕ) → bytes key ≡ name → list_any (bytes_eq name) (map bytes keys) ≡ false
-    → new ≡ insert_key (λ first second. bytes_eq (bytes first) (bytes second)) keys key
-    → map bytes new ≡ map bytes keys ++ name ∷ []
-insert_key-last bytes keys new key name same absent inserted =
-    let none : list_any (λ other. bytes_eq (bytes key) (bytes other)) keys ≡ false =
-    sym (list_any-map bytes (bytes_eq (bytes key)) keys)
-    ∙ ap (λ n. list_any (bytes_eq n) (map bytes keys)) same ∙ absent in
-    rw (inserted, none) (map_push bytes keys key ∙ ap (λ n. map bytes keys ++ n ∷ []) same)
+-- a key that is put in puts its name in
+pub insert_key-map : {X : Type 0} (bytes : X → List ℕ) (keys : List X) (key : X)
+    → map bytes (insert_key (λ first second. bytes_eq (bytes first) (bytes second)) keys key)
+    ≡ with_name (map bytes keys) (bytes key)
+insert_key-map bytes keys key = at (list_any (λ other. bytes_eq (bytes key) (bytes other)) keys)
+    (list_any (bytes_eq (bytes key)) (map bytes keys))
+    (sym (list_any-map bytes (bytes_eq (bytes key)) keys))
+  where
+    at : (here among : Bool) → here ≡ among
+        → map bytes (if here then keys else keys ++ key ∷ [])
+        ≡ (if among then map bytes keys else map bytes keys ++ bytes key ∷ [])
+    at true true same = refl
+    at false false same = map_push bytes keys key
+    at true false same = cc
+    at false true same = cc
 
 -- ---- names below a number
 
@@ -90,16 +96,24 @@ module _ (name_at : ℕ → List ℕ) (count : ℕ) (name : List ℕ) where
       (omega arith))) in
       let bad : true ≡ false = sym holds ∙ fails in cc
 
+-- one more name below the number, which none of those before is
+pub with_name-next : (name_at : ℕ → List ℕ) (count : ℕ) {names new : List (List ℕ)}
+    {name : List ℕ} → names ≡ map name_at (range_with_len 0 count) → name ≡ name_at count
+    → ((number : ℕ) → number < count → name_at number ≡ name_at count → ⊥)
+    → new ≡ with_name names name → new ≡ map name_at (range_with_len 0 (count + 1))
+with_name-next name_at count are same none inserted =
+    inserted ∙ (λ i. with_name (are i) (same i))
+    ∙ rw (absent_below name_at count (name_at count) none)
+    (sym (map-range_with_len_more name_at 0 count count (omega arith)))
+
 -- ---- a circuit's registers
 
 -- the name of a register is none of those before
 pub register_new : (circuit : Circuit) (register : ℕ) → register < length circuit.registers
-    → list_any (bytes_eq (register_name circuit register))
-    (map (register_name circuit) (range_with_len 0 register)) ≡ false
-register_new circuit register within =
-    absent_below (register_name circuit) register (register_name circuit register)
-    (λ earlier before same.
-    omega (arith, one_register circuit earlier register (omega arith) within same))
+    → (earlier : ℕ) → earlier < register
+    → register_name circuit earlier ≡ register_name circuit register → ⊥
+register_new circuit register within earlier before same =
+    omega (arith, one_register circuit earlier register (omega arith) within same)
 
 -- so many names have room
 pub registers_few : (circuit : Circuit) (names : List (List ℕ)) (register : ℕ)

@@ -1,1 +1,3 @@
+pub mod HashedWords
+pub mod Names
 pub mod RegisterNames

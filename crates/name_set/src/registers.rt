@@ -1,7 +1,7 @@
 ghost use Rattle.std.specs.Prelude.{◌≡◌, IfOk};
 ghost use Rattle.name_set.specs.RegisterNames.{register_names};
 
-use crate::NameSet;
+use crate::{HashKey, NameSet};
 use cts_base::NoMemory;
 use cts_model::Circuit;
 use std::alloc::Global;
@@ -12,12 +12,12 @@ use std::alloc::Global;
 /// # Errors
 ///
 /// There is no memory for the names.
-pub fn register_names(alloc: Global, circuit: &Circuit) -> Result<NameSet, NoMemory>
+pub fn register_names(alloc: Global, circuit: &Circuit) -> Result<NameSet<'_>, NoMemory>
     ensures { IfOk result (λ names. names ≡ register_names circuit.now) }
 {
-    let mut names = NameSet::new(alloc);
+    let mut names = NameSet::new(alloc, HashKey::of_circuit(circuit));
     for register in 0..circuit.registers.len() {
-        names.push(circuit.register_name(register))?;
+        names.insert(circuit.register_name(register))?;
     }
     Ok(names)
 }

@@ -1,7 +1,0 @@
-use Rattle.bench_reader.proofs.Vocabulary.{sym, ◌∙◌, bytes_eq, list_any-map}
-use Rattle.bench_reader.proofs.names.Names.is_defined.Goals as goal
-
-pub returns : goal.returns
-returns c = rw (← c.self.view_is)
-    (c.contains.ensures
-    ∙ sym (list_any-map (λ key. key.now) (bytes_eq c.args.name.now) c.self.inside.names.keys))
