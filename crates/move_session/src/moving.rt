@@ -13,16 +13,16 @@ const MAX_MOVES: usize = 10000;
 
 /// The moves of the lines so far.
 #[derive(Drop)]
-pub(crate) struct Moving {
-    names: NameSet,
+pub(crate) struct Moving<'c> {
+    names: NameSet<'c>,
     pub(crate) moves: Listed<Move>,
 }
 
 ghost use Rattle.move_session.specs.Taken.{HasTaken};
 
-impl Moving {
+impl<'c> Moving<'c> {
     /// No moves.
-    pub(crate) fn new(alloc: Global, circuit: &Circuit) -> Result<Moving, NoMemory>
+    pub(crate) fn new(alloc: Global, circuit: &'c Circuit) -> Result<Moving<'c>, NoMemory>
         ensures names { IfOk result (λ moving. moving.names ≡ register_names circuit.now) }
         ensures fresh { IfOk result (λ moving. HasTaken moving moving []) }
     {
@@ -50,7 +50,7 @@ impl Moving {
     }
 }
 
-impl<'a> LineFormat<'a> for Moving {
+impl<'a, 'c> LineFormat<'a> for Moving<'c> {
     type Fault = MovesFault;
 
     ghost no_memory = { fault.NoMemory };
