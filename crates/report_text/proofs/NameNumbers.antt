@@ -1,7 +1,7 @@
 -- The registers and the signals that names denote, and that no other number has the name of one.
-use Rattle.report_text.proofs.Vocabulary.{◌≡◌, ◌<◌, ◌≤◌, ℕ, Bool, List, Result, Ok, Err, IfOk, IfErr, length, get_or, sym, ap, ◌∙◌, arith, true, false, ◌&&◌, cond, IsTrue, [], None, inl, inr, refl, ◌+◌, map, position, Option, Some, subst, range_with_len, list_any, bytes_eq, false_from_ne_true, cases_lt, get_or-range_with_len, length-range_with_len, length-map-range_with_len, position_or_len_is, bytes_eq-Decides, nat_tests, slice_get_past, slice_get_within, get_or_from_slice_get, Circuit, register_name, Signal, host_name, is_named, has_host, is_host, is_name, is_short, signal_name, one_register, one_signal, Register, Flaw, NamesRegister, WordHasFlaw, register_named, flaw_in, IsNumberOf}
+use Rattle.report_text.proofs.Vocabulary.{◌≡◌, ◌<◌, ◌≤◌, ℕ, Bool, List, Result, Ok, Err, IfOk, IfErr, length, get_or, sym, ap, ◌∙◌, arith, true, false, ◌&&◌, cond, IsTrue, [], None, inl, inr, refl, ◌+◌, map, position, Option, Some, subst, range_with_len, bytes_eq, false_from_ne_true, cases_lt, get_or-range_with_len, length-range_with_len, length-map-range_with_len, position_or_len_is, bytes_eq-Decides, nat_tests, slice_get_past, slice_get_within, get_or_from_slice_get, Circuit, register_name, Signal, host_name, is_named, has_host, is_host, is_name, is_short, signal_name, one_register, one_signal, Register, Flaw, NamesRegister, WordHasFlaw, register_named, flaw_in, IsNumberOf}
 use Rattle.cts_model.proofs.CircuitLemmas.{registered, register_signal_is}
-use Rattle.name_set.proofs.NameNumbers.{absent_below, found_below, missed_below}
+use Rattle.name_set.proofs.NameNumbers.{found_below, missed_below}
 use Rattle.report_text.specs.declared.field.Flaw.TheVariants as flaws
 
 module _ (circuit : Circuit) (name : List ℕ) where
@@ -101,12 +101,10 @@ number_denoted name_of count name names are =
 
 -- the name of a signal is none of those before
 pub signal_new : (circuit : Circuit) (number : ℕ) → number < length circuit.signals
-    → list_any (bytes_eq (signal_name circuit number))
-    (map (signal_name circuit) (range_with_len 0 number)) ≡ false
-signal_new circuit number within =
-    absent_below (signal_name circuit) number (signal_name circuit number)
-    (λ earlier before same.
-    omega (arith, one_signal circuit earlier number (omega arith) within same))
+    → (earlier : ℕ) → earlier < number → signal_name circuit earlier ≡ signal_name circuit number
+    → ⊥
+signal_new circuit number within earlier before same =
+    omega (arith, one_signal circuit earlier number (omega arith) within same)
 
 -- so many names have room
 pub signals_few : (circuit : Circuit) (names : List (List ℕ)) (number : ℕ)

@@ -7,7 +7,7 @@ use crate::field::Scale;
 use crate::timing::signal_name;
 use cts_base::NoMemory;
 use cts_model::{Circuit, Grid};
-use name_set::NameSet;
+use name_set::{HashKey, NameSet};
 use std::alloc::Global;
 
 /// What the lines of a report are judged by: a circuit, the names of its registers and of its
@@ -16,8 +16,8 @@ use std::alloc::Global;
 pub(crate) struct Rules<'a> {
     pub alloc: Global,
     pub circuit: &'a Circuit,
-    pub registers: &'a NameSet,
-    pub signals: &'a NameSet,
+    pub registers: &'a NameSet<'a>,
+    pub signals: &'a NameSet<'a>,
     pub scale: Scale,
     ghost registered: { registers.now ≡ register_names circuit.now },
     ghost named: { signals.now ≡ signal_names circuit.now },
@@ -57,12 +57,12 @@ impl<'a> Rules<'a> {
 }
 
 /// The names of the signals, in order.
-pub(crate) fn signal_names(alloc: Global, circuit: &Circuit) -> Result<NameSet, NoMemory>
+pub(crate) fn signal_names(alloc: Global, circuit: &Circuit) -> Result<NameSet<'_>, NoMemory>
     ensures { IfOk result (λ names. names ≡ signal_names circuit.now) }
 {
-    let mut names = NameSet::new(alloc);
+    let mut names = NameSet::new(alloc, HashKey::of_circuit(circuit));
     for signal in 0..circuit.signals.len() {
-        names.push(signal_name(circuit, signal))?;
+        names.insert(signal_name(circuit, signal))?;
     }
     Ok(names)
 }

@@ -1,7 +1,7 @@
 //! The parts of a whole report.
 
-ghost use Rattle.std.specs.Prelude.{◌≢◌, Some, IfOk, IfErr};
-ghost use Rattle.report_text.specs.Vocabulary.{HasParts, HasFault, NoMemory};
+ghost use Rattle.std.specs.Prelude.{◌≡◌, ◌≢◌, Some, IfOk, IfErr};
+ghost use Rattle.report_text.specs.Vocabulary.{register_names, signal_names, HasParts, HasFault, NoMemory};
 
 use crate::cursor::Cursor;
 use crate::fault::ReportFault;
@@ -11,7 +11,7 @@ use crate::reader::heading::{read_heading, read_shown};
 use crate::rules::{Rules, signal_names};
 use crate::sections::Parts;
 use cts_model::{Circuit, Grid, Tech};
-use name_set::register_names;
+use name_set::{NameSet, register_names};
 use std::alloc::Global;
 
 /// Reads all lines of a report.
@@ -27,11 +27,29 @@ pub(crate) fn read_parts(
 {
     let registers = register_names(alloc, circuit)?;
     let signals = signal_names(alloc, circuit)?;
+    read_by_names(alloc, bytes, circuit, tech, &registers, &signals)
+}
+
+// The same, where the names of the circuit are known.
+fn read_by_names(
+    alloc: Global,
+    bytes: &[u8],
+    circuit: &Circuit,
+    tech: &Tech,
+    registers: &NameSet,
+    signals: &NameSet,
+) -> Result<Parts, ReportFault>
+    requires registered { registers.now ≡ register_names circuit.now }
+    requires named { signals.now ≡ signal_names circuit.now }
+    ensures ok { IfOk result (HasParts circuit.now tech.now bytes.now) }
+    ensures fault { IfErr result (λ found. found ≢ NoMemory
+        → HasFault circuit.now tech.now bytes.now (Some found)) }
+{
     let rules = Rules {
         alloc,
         circuit,
-        registers: &registers,
-        signals: &signals,
+        registers,
+        signals,
         scale: Scale { den: 1, grid: 1 },
     };
     read_named(rules, bytes, tech)
