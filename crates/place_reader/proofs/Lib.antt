@@ -1,6 +1,6 @@
 mod Vocabulary
 mod NameLemmas
-mod PlacedLemmas
+mod PointLemmas
 mod PlaceLemmas
 mod ToldPlaces
 pub mod TellsPlaces

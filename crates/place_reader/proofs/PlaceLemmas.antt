@@ -1,5 +1,5 @@
 -- The places that lines give, and what is kept of them.
-use Rattle.place_reader.proofs.Vocabulary.{◌≡◌, ℕ, ◌+◌, Bool, true, false, ◌||◌, cond, IsTrue, List, [], ◌∷◌, ◌++◌, length, Some, None, Result, Ok, Err, refl, sym, ap, ◌∙◌, subst, append_assoc, append-nil, lookup, option_map, option_or, option_to_list, result_ok, bytes_eq, or-false, list_any-append, bytes_eq-Decides, NumberFault, Point, point_of, Entry, Blank, Header, Stands, entry_after, entry_of_words, has_begun, has_words, words_in, place_entry_fault, place_line_fault, is_among, node_fault, place_by, placed_at, places_after, AreSamePlaces, HasTaken, TakesLine, wanted_place, is_written}
+use Rattle.place_reader.proofs.Vocabulary.{◌≡◌, ℕ, ◌+◌, Bool, true, false, ◌||◌, cond, IsTrue, List, [], ◌∷◌, ◌++◌, length, Option, Some, None, Result, Ok, Err, refl, sym, ap, ◌∙◌, append_assoc, append-nil, lookup, option_map, option_or, option_to_list, result_ok, bytes_eq, or-false, list_any-append, bytes_eq-Decides, NumberFault, Point, point_of, Entry, Blank, Header, Stands, entry_after, entry_of_words, has_begun, has_words, words_in, place_entry_fault, place_line_fault, is_among, node_fault, place_by, placed_at, places_after, AreSamePlaces, HasTaken, TakesLine, kept_at, wanted_place, is_written}
 use Rattle.place_reader.specs.declared.placing.Placing.{Placing}
 
 -- a look-up in a list and then in another
@@ -60,27 +60,28 @@ module _ (wanted : List ℕ → Bool) where
       at false passed (Err fault) = refl
       at false passed (Ok point) = by (bytes_eq name node.name) refl passed point
 
-  module _ (places others : List (List ℕ × Point)) (same : AreSamePlaces wanted places others)
+  module _ (place : List ℕ → Option Point) (others : List (List ℕ × Point))
+      (same : AreSamePlaces wanted place (placed_at others))
     where
       -- of a line only the place of a wanted node matters
-      same_more : (entry : Entry) → AreSamePlaces wanted (places ++ wanted_place wanted entry)
-          (others ++ option_to_list (place_by (Some entry)))
+      same_more : (entry : Entry) → AreSamePlaces wanted
+          (λ name. option_or (place name) (placed_at (wanted_place wanted entry) name))
+          (placed_at (others ++ option_to_list (place_by (Some entry))))
       same_more entry name wants =
-          lookup-append (bytes_eq name) places (wanted_place wanted entry)
-          ∙ (λ i. option_or (same name wants i) (wanted_alone entry name wants i))
+          (λ i. option_or (same name wants i) (wanted_alone entry name wants i))
           ∙ sym (lookup-append (bytes_eq name) others (option_to_list (place_by (Some entry))))
 
       -- and the same is wrong with a line
       same_fault : (number : ℕ) (entry : Entry)
-          → place_entry_fault wanted places number (Some entry)
-          ≡ place_entry_fault wanted others number (Some entry)
+          → place_entry_fault wanted place number (Some entry)
+          ≡ place_entry_fault wanted (placed_at others) number (Some entry)
       same_fault number Blank = refl
       same_fault number Header = refl
       same_fault number (Stands node) = at (wanted node.name) refl
         where
           at : (b : Bool) → wanted node.name ≡ b
               → cond b (node_fault number (point_of node.x node.y)
-              (placed_at places node.name)) None
+              (place node.name)) None
               ≡ cond b (node_fault number (point_of node.x node.y)
               (placed_at others node.name)) None
           at true wants = ap (node_fault number (point_of node.x node.y)) (same node.name wants)
@@ -95,14 +96,14 @@ module _ {start old : Placing} {earlier : List (List ℕ)} (line : List ℕ) (en
 
   -- so this is wrong with it
   pub fault_is : (number : ℕ) → number ≡ length earlier + 1
-      → place_entry_fault (is_among old.wanted) old.placed number (Some entry)
+      → place_entry_fault (is_among old.wanted) (kept_at old) number (Some entry)
       ≡ place_line_fault (is_among start.wanted) earlier line
   fault_is number is =
-      ap (λ names. place_entry_fault (is_among names) old.placed number (Some entry)) has.wanted
-      ∙ same_fault (is_among start.wanted) old.placed (places_after [] earlier) has.places number
+      ap (λ names. place_entry_fault (is_among names) (kept_at old) number (Some entry)) has.wanted
+      ∙ same_fault (is_among start.wanted) (kept_at old) (places_after [] earlier) has.places number
       entry
-      ∙ (λ i. place_entry_fault (is_among start.wanted) (places_after [] earlier) (is i)
-      (sym entry_is i))
+      ∙ (λ i. place_entry_fault (is_among start.wanted) (placed_at (places_after [] earlier))
+      (is i) (sym entry_is i))
 
   -- and this is kept of it
   pub line_taken : {new : Placing} {number : ℕ} → new.wanted ≡ old.wanted
@@ -111,15 +112,13 @@ module _ {start old : Placing} {earlier : List (List ℕ)} (line : List ℕ) (en
   line_taken {new} {number} names written takes = record {
     wanted = names ∙ has.wanted;
     begun = takes.begun ∙ (λ i. has.begun i || written i) ∙ sym (begun_push earlier line);
-    places =
-        let given = takes.placed
-        ∙ ap (λ names. old.placed ++ wanted_place (is_among names) entry) has.wanted in
+    places = λ name wants.
+        let given = takes.placed name ∙ ap (λ names. option_or (kept_at old name)
+        (placed_at (wanted_place (is_among names) entry) name)) has.wanted in
         let told : places_after [] (earlier ++ line ∷ [])
         ≡ places_after [] earlier ++ option_to_list (place_by (Some entry)) =
         places_push [] earlier line
         ∙ ap (λ e. places_after [] earlier ++ option_to_list (place_by e)) entry_is in
-        subst (λ places. AreSamePlaces (is_among start.wanted) new.placed places) (sym told)
-        (subst (λ places. AreSamePlaces (is_among start.wanted) places
-        (places_after [] earlier ++ option_to_list (place_by (Some entry)))) (sym given)
-        (same_more (is_among start.wanted) old.placed (places_after [] earlier) has.places entry));
+        given ∙ same_more (is_among start.wanted) (kept_at old) (places_after [] earlier)
+        has.places entry name wants ∙ ap (λ places. placed_at places name) (sym told);
   }

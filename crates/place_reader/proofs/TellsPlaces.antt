@@ -50,14 +50,14 @@ unplaced_below number (Some first ∷ places) register told =
 
 module _ (register : ℕ) where
   -- no line is refused for a register
-  not_of_entry : (wanted : List ℕ → Bool) (places : List (List ℕ × Point)) (number : ℕ)
-      (entry : Option Entry) → place_entry_fault wanted places number entry ≡ Some
+  not_of_entry : (wanted : List ℕ → Bool) (given : List ℕ → Option Point) (number : ℕ)
+      (entry : Option Entry) → place_entry_fault wanted given number entry ≡ Some
       (NoPlace register) → ⊥
-  not_of_entry wanted places number None found = cc
-  not_of_entry wanted places number (Some Blank) found = cc
-  not_of_entry wanted places number (Some Header) found = cc
-  not_of_entry wanted places number (Some (Stands node)) found =
-      at (wanted node.name) (point_of node.x node.y) (placed_at places node.name) found
+  not_of_entry wanted given number None found = cc
+  not_of_entry wanted given number (Some Blank) found = cc
+  not_of_entry wanted given number (Some Header) found = cc
+  not_of_entry wanted given number (Some (Stands node)) found =
+      at (wanted node.name) (point_of node.x node.y) (given node.name) found
     where
       at : (b : Bool) (point : Result Point NumberFault) (before : Option Point)
           → cond b (node_fault number point before) None ≡ Some (NoPlace register) → ⊥

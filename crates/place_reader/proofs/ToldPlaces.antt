@@ -108,19 +108,19 @@ module _ (text : List ℕ) (circuit : Circuit) (source host : List ℕ) (names :
   line_refused fault found = rw (fault_same (Some fault) found) refl
 
   -- where there is none the places that are kept tell the rest
-  pub kept_told : (kept : List (List ℕ × Point))
+  pub kept_told : (kept : List ℕ → Option Point)
       → first_fault (place_line_fault (is_among names)) text ≡ None
-      → AreSamePlaces (is_among names) kept (places_after [] (lines_of text))
+      → AreSamePlaces (is_among names) kept (placed_at (places_after [] (lines_of text)))
       → places_in text circuit source host
-      ≡ with_source (points_from 0 (map (placed_at kept) (register_nodes circuit host)))
-      (placed_at kept source)
+      ≡ with_source (points_from 0 (map kept (register_nodes circuit host)))
+      (kept source)
   unfolding places_in
   kept_told kept flawless are =
       let places = places_after [] (lines_of text) in
       let by_name : (name : List ℕ) → IsTrue (is_among (wanted_nodes circuit source host) name)
-      → placed_at places name ≡ placed_at kept name =
+      → placed_at places name ≡ kept name =
       λ name among. sym (are name (same name ∙ among)) in
-      let registers = places_same (placed_at places) (placed_at kept) (register_nodes circuit host)
+      let registers = places_same (placed_at places) kept (register_nodes circuit host)
       (source ∷ []) by_name in
       let at_source = by_name source (last_among (register_nodes circuit host) source) in
       rw (fault_same None flawless)

@@ -60,21 +60,21 @@ node_fault number (Err fault) before = Some (BadNumber number fault)
 node_fault number (Ok point) None = None
 node_fault number (Ok point) (Some before) = Some (PlaceTwice number)
 
--- what is wrong with the line of this number where these places are given before it
-abbrev pub place_entry_fault : (wanted : List ℕ → Bool) → List (List ℕ × Point) → (number : ℕ)
-    → Option Entry → Option PlaceFault
-place_entry_fault wanted places number None = Some (BadLine number)
-place_entry_fault wanted places number (Some Blank) = None
-place_entry_fault wanted places number (Some Header) = None
-place_entry_fault wanted places number (Some (Stands node)) =
+-- what is wrong with the line of this number where nodes stand so by the lines before it
+abbrev pub place_entry_fault : (wanted : List ℕ → Bool) → (before : List ℕ → Option Point)
+    → (number : ℕ) → Option Entry → Option PlaceFault
+place_entry_fault wanted before number None = Some (BadLine number)
+place_entry_fault wanted before number (Some Blank) = None
+place_entry_fault wanted before number (Some Header) = None
+place_entry_fault wanted before number (Some (Stands node)) =
     if wanted node.name
-    then node_fault number (point_of node.x node.y) (placed_at places node.name) else None
+    then node_fault number (point_of node.x node.y) (before node.name) else None
 
 -- what is wrong with a line after the lines before it, if anything is
 abbrev pub place_line_fault : (wanted : List ℕ → Bool) → (earlier : List (List ℕ)) → List ℕ
     → Option PlaceFault
 place_line_fault wanted earlier line =
-    place_entry_fault wanted (places_after [] earlier) (length earlier + 1)
+    place_entry_fault wanted (placed_at (places_after [] earlier)) (length earlier + 1)
     (entry_after earlier line)
 
 -- the points of registers from this number on, or the first that has none

@@ -3,11 +3,10 @@
 
 mod entry;
 mod fault;
-mod node_names;
-mod placed;
 mod placing;
 mod read;
 mod tail;
+mod wanted;
 
 pub use fault::PlaceFault;
 pub use read::read_places;

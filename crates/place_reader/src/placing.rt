@@ -1,28 +1,30 @@
-ghost use Rattle.std.specs.Prelude.{◌≡◌, [], OnOk, IfOk, IfErr};
+ghost use Rattle.std.specs.Prelude.{◌≡◌, [], length, replicate, None, OnOk, IfOk, IfErr};
 ghost use Rattle.place_reader.specs.Vocabulary.{IsFaultOf, AreSameNames, place_entry_fault, place_line_fault, is_among, wanted_nodes, node_said, said_by};
 ghost use Rattle.place_reader.specs.declared.fault.PlaceFault.TheVariants as fault;
 ghost use Rattle.cts_model.specs.placement.PlaceLines as format;
 
 use crate::PlaceFault;
 use crate::entry::{Entry, Node};
-use crate::node_names::NodeNames;
-use crate::placed::Placed;
-use cts_base::{Line, LineFormat, NoMemory};
-use cts_model::{Circuit, read_point};
+use crate::wanted::wanted_nodes;
+use cts_base::{Line, LineFormat, Listed, NoMemory};
+use cts_model::{Circuit, Point, read_point};
+use name_set::NameSet;
 use std::alloc::Global;
 
 /// What the lines so far place.
 #[derive(Drop)]
-pub(crate) struct Placing {
-    wanted: NodeNames,
-    pub(crate) placed: Placed,
+pub(crate) struct Placing<'a> {
+    wanted: NameSet<'a>,
+    // Where each wanted node stands, by its number, in micros, if a line so far says it.
+    points: Listed<Option<Point>>,
     // Whether a line so far isn't blank.
     begun: bool,
+    ghost numbered: { length points ≡ length wanted },
 }
 
-ghost use Rattle.place_reader.specs.Taken.{HasTaken, TakesLine};
+impl<'a> LineFormat<'a> for Placing<'a> {
+    ghost use Rattle.place_reader.specs.Taken.{HasTaken};
 
-impl<'a> LineFormat<'a> for Placing {
     type Fault = PlaceFault;
 
     ghost no_memory = { fault.NoMemory };
@@ -39,24 +41,35 @@ impl<'a> LineFormat<'a> for Placing {
     }
 }
 
-impl Placing {
+impl<'a> Placing<'a> {
+    ghost use Rattle.place_reader.specs.Taken.{HasTaken, TakesLine, kept_at};
+
     /// Nothing is placed of what is wanted.
     pub(crate) fn new(
         alloc: Global,
-        circuit: &Circuit,
-        source: &[u8],
-        host: &[u8],
-    ) -> Result<Placing, NoMemory>
+        circuit: &'a Circuit,
+        source: &'a [u8],
+        host: &'a [u8],
+    ) -> Result<Placing<'a>, NoMemory>
         ensures { IfOk result (λ placing.
             AreSameNames placing.wanted (wanted_nodes circuit.now source.now host.now)
             × HasTaken placing placing []) }
     {
-        let wanted = NodeNames::wanted(alloc, circuit, source, host)?;
+        let wanted = wanted_nodes(alloc, circuit, source, host)?;
+        let points = no_points(alloc, wanted.len())?;
         Ok(Placing {
             wanted,
-            placed: Placed::new(alloc),
+            points,
             begun: false,
         })
+    }
+
+    /// Where a node stands by the lines so far.
+    pub(crate) fn place_of(&self, name: &[u8]) -> Option<Point>
+        ensures { result ≡ kept_at self.now name.now }
+    {
+        let number = self.wanted.number_of(name)?;
+        self.points.as_slice()[number as usize]
     }
 
     // Takes in what the line of this number is, if nothing is wrong with it.
@@ -64,7 +77,7 @@ impl Placing {
         ensures wanted { self.new.wanted ≡ self.old.wanted }
         ensures taken { OnOk result (TakesLine self.old self.new number (said_by entry.entry)) }
         ensures faulty { IfErr result (IsFaultOf fault.NoMemory (place_entry_fault
-            (is_among self.old.wanted) self.old.placed number (Some (said_by entry.entry)))) }
+            (is_among self.old.wanted) (kept_at self.old) number (Some (said_by entry.entry)))) }
     {
         match entry {
             Entry::Blank => Ok(()),
@@ -82,21 +95,32 @@ impl Placing {
         ensures taken { OnOk result
             (TakesLine self.old self.new number (format.Stands (node_said node.entry))) }
         ensures faulty { IfErr result (IsFaultOf fault.NoMemory (place_entry_fault
-            (is_among self.old.wanted) self.old.placed number
+            (is_among self.old.wanted) (kept_at self.old) number
             (Some (format.Stands (node_said node.entry))))) }
     {
         self.begun = true;
-        if !self.wanted.has(node.name) {
+        let Some(at) = self.wanted.number_of(node.name) else {
             return Ok(());
-        }
+        };
         let point = match read_point(node.x, node.y) {
             Ok(point) => point,
             Err(fault) => return Err(PlaceFault::BadNumber(number, fault)),
         };
-        if self.placed.place_of(node.name).is_some() {
+        if self.points.as_slice()[at as usize].is_some() {
             return Err(PlaceFault::PlaceTwice(number));
         }
-        self.placed.put(node.name, point)?;
+        self.points.set(at as usize, Some(point));
         Ok(())
     }
+}
+
+// So many nodes without a place.
+fn no_points(alloc: Global, count: usize) -> Result<Listed<Option<Point>>, NoMemory>
+    ensures { IfOk result (λ points. points ≡ replicate count None) }
+{
+    let mut points = Listed::new(alloc);
+    for _ in 0..count {
+        points.push(None)?;
+    }
+    Ok(points)
 }

@@ -1,10 +1,10 @@
 ghost use Rattle.std.specs.Prelude.{◌≡◌, ◌≤◌, ◌↔◌, [], length, map};
-ghost use Rattle.place_reader.specs.Vocabulary.{IsToldBy, HasNoHost, placed_at, places_in, points_from, register_nodes};
+ghost use Rattle.place_reader.specs.Vocabulary.{IsToldBy, HasNoHost, places_in, points_from, register_nodes};
+ghost use Rattle.place_reader.specs.Taken.{kept_at};
 
 use crate::PlaceFault;
-use crate::node_names::register_node;
-use crate::placed::Placed;
 use crate::placing::Placing;
+use crate::wanted::register_node;
 use cts_base::{Listed, read_lines};
 use cts_model::{Circuit, Places, Point};
 use std::alloc::Global;
@@ -29,8 +29,8 @@ pub fn read_places(
 {
     let mut placing = Placing::new(alloc, circuit, source, host)?;
     read_lines(&mut placing, bytes)?;
-    let registers = register_places(alloc, circuit, host, &placing.placed)?;
-    let Some(source) = placing.placed.place_of(source) else {
+    let registers = register_places(alloc, circuit, host, &placing)?;
+    let Some(source) = placing.place_of(source) else {
         return Err(PlaceFault::NoSource);
     };
     Ok(Places { source, registers })
@@ -41,14 +41,14 @@ fn register_places(
     alloc: Global,
     circuit: &Circuit,
     host: &[u8],
-    placed: &Placed,
+    placing: &Placing,
 ) -> Result<Listed<Point>, PlaceFault>
     ensures { IsToldBy PlaceFault.NoMemory
-        (points_from 0 (map (placed_at placed.now) (register_nodes circuit.now host.now))) result }
+        (points_from 0 (map (kept_at placing.now) (register_nodes circuit.now host.now))) result }
 {
     let mut points = Listed::new(alloc);
     for register in 0..circuit.registers.len() {
-        let Some(point) = placed.place_of(register_node(circuit, host, register)) else {
+        let Some(point) = placing.place_of(register_node(circuit, host, register)) else {
             return Err(PlaceFault::NoPlace(register as u32));
         };
         points.push(point)?;

@@ -1,7 +1,8 @@
-use Rattle.place_reader.specs.Placements.{placed_at, register_nodes}
+use Rattle.place_reader.specs.Placements.{register_nodes}
+use Rattle.place_reader.specs.Taken.{kept_at}
 use Rattle.place_reader.proofs.ToldPlaces.{ArePoints}
 use Rattle.place_reader.proofs.read.register_places.Given as goal
 
 abbrev pub invariant-loop-register : goal.invariant-loop-register
 invariant-loop-register l =
-    ArePoints (placed_at l.placed) (register_nodes l.circuit l.host) l.register l.points
+    ArePoints (kept_at l.placing) (register_nodes l.circuit l.host) l.register l.points

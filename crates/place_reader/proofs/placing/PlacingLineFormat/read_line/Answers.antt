@@ -1,10 +1,10 @@
 use Rattle.place_reader.proofs.Vocabulary.{◌∙◌, sym, subst, IfErr-weaker, IsFaultOf, NoMemory, said_by}
-use Rattle.indexmap.proofs.MapLemmas.{OnOk-map}
+use Rattle.std.proofs.lemmas.Result.{on_ok_weaker}
 use Rattle.place_reader.proofs.PlaceLemmas.{fault_is, line_taken}
 use Rattle.place_reader.proofs.placing.PlacingLineFormat.read_line.Goals as goal
 
 pub returns-clause-flawless : goal.returns-clause-flawless
-returns-clause-flawless c = OnOk-map c.take.result _ _
+returns-clause-flawless c = on_ok_weaker c.take.result
     (λ takes start earlier has number_is.
     let said = c.in-Some.ensures.said in
     let line = c.args.line.text.now in
