@@ -1,5 +1,5 @@
 -- The words that the proofs of this crate have in common.
-pub use Rattle.std.proofs.Common.{◌≡◌, ℕ, nat_eq, List, [], ◌∷◌, ◌++◌, map, Option, Some, None, IsSome, IsSomeAnd, All, refl, sym, ap, ◌∙◌, subst, append_assoc, append-nil, ◌+◌, cond, true, length, Result, Ok, Err, MatchResult, arith, ◌<◌, ◌==◌, if◌then◌else◌, inl, inr, Bool, false, not, codes, IfSome, IsTrue, get_or, true≢false, suc, ◌≤◌, Contains, position, Bor, zero, AllPairs, ◌≢◌, ◌||◌, filter, drop, length-append, take, ◌&&◌, is_some, nat_le, nat_lt, ◌^◌, rules, tests}
+pub use Rattle.std.proofs.Common.{◌≡◌, ℕ, nat_eq, List, [], ◌∷◌, ◌++◌, map, Option, Some, None, IsSome, IsSomeAnd, All, refl, sym, ap, ◌∙◌, subst, append_assoc, append-nil, ◌+◌, cond, true, length, Result, Ok, Err, MatchResult, arith, ◌<◌, ◌==◌, if◌then◌else◌, inl, inr, Bool, false, not, codes, IfSome, IsTrue, get_or, true≢false, suc, ◌≤◌, Contains, Bor, zero, AllPairs, ◌≢◌, ◌||◌, filter, drop, length-append, take, ◌&&◌, is_some, nat_le, nat_lt, ◌^◌, rules, tests}
 pub use Rattle.std.proofs.lemmas.Bool.Decides.{nat_tests}
 pub use Rattle.std.proofs.lemmas.List.{map_push, length-map, get_or-map, length_push, take_more, drop_all}
 pub use Rattle.std.proofs.lemmas.List.Elements.{All-nil, All-cons, All-head, All-push, All-tail, All-map, All-contains, filter_map-append, Contains-append_right, Contains-get_or, All-filter, All-weaker, filter_passes, filter-append}
@@ -7,11 +7,10 @@ pub use Rattle.std.proofs.lemmas.List.Quantifiers.{position-Some, all_pairs_push
 pub use Rattle.std.proofs.lemmas.List.Sums.{sum_by_push, sum_by-cons, AllPass-from_list_all, list_all-from_AllPass}
 pub use Rattle.std.proofs.lemmas.Option.{slice_get_within, get_or_from_slice_get, slice_get-get_or, same_Some}
 pub use Rattle.std.proofs.lemmas.Result.{err_from_is_err_and, on_ok_weaker}
-pub use Rattle.std.specs.List.{filter_map, list_all, slice_get, list_any, position_or_len, find, cons_option, enumerate_from, sum_by, prefix_len}
+pub use Rattle.std.specs.List.{filter_map, list_all, slice_get, list_any, find, cons_option, enumerate_from, sum_by, prefix_len}
 pub use Rattle.std.specs.Option.{option_or, option_map, option_and_then, option_map_or, option_to_list}
 pub use Rattle.std.specs.Str.{str_eq_ignore_ascii_case, bytes_eq}
 pub use Rattle.cts_base.proofs.LineFaults.{flawless_at, passed_over, neither}
-pub use Rattle.cts_base.proofs.ListTests.{list_any-map}
 pub use Rattle.cts_base.specs.LineFormats.{IsFaultOf, first_fault, first_fault_after}
 pub use Rattle.cts_base.specs.Lines.{lines_of}
 pub use Rattle.cts_base.specs.Words.{is_blank, before_hash}

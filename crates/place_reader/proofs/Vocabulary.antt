@@ -1,15 +1,15 @@
 -- The words that the proofs of this crate have in common.
-pub use Rattle.std.proofs.Common.{◌≡◌, ℕ, ◌+◌, Bool, true, false, ◌||◌, cond, List, [], ◌∷◌, ◌++◌, map, take, Some, refl, sym, ap, ◌∙◌, IsTrue, length, length-append, if◌then◌else◌, get_or, set, replicate, position, tests, rules, not, ◌≢◌, true≢false, None, Result, Ok, Err, subst, append_assoc, append-nil, ◌<◌, Option, arith, ◌≤◌, drop, suc, inl, inr}
+pub use Rattle.std.proofs.Common.{◌≡◌, ℕ, ◌+◌, Bool, true, false, ◌||◌, cond, List, [], ◌∷◌, ◌++◌, map, take, Some, refl, sym, ap, ◌∙◌, IsTrue, length, length-append, if◌then◌else◌, get_or, set, replicate, position, not, ◌≢◌, true≢false, None, Result, Ok, Err, subst, append_assoc, append-nil, ◌<◌, Option, arith, ◌≤◌, drop, suc, inl, inr}
 pub use Rattle.std.proofs.Math.Bool.{or-false, or-true}
 pub use Rattle.std.proofs.lemmas.Bool.Decides.{nat_tests}
-pub use Rattle.std.proofs.lemmas.List.{take_more, length-map, drop_all, get_or-replicate, get_or-set_same, get_or-set_other, get_or_past}
+pub use Rattle.std.proofs.lemmas.List.{take_more, length-map, drop_all, get_or-set_same, get_or-set_other, get_or_past}
 pub use Rattle.std.proofs.lemmas.List.Quantifiers.{position-Some}
 pub use Rattle.std.proofs.lemmas.List.Sums.{fails_before_first, passes_at_first, prefix_len-le-length}
 pub use Rattle.std.proofs.lemmas.List.Folds.{list_any-append, list_any_at, list_any_none}
 pub use Rattle.std.proofs.lemmas.Option.{slice_get_within, get_or_from_slice_get}
 pub use Rattle.std.proofs.lemmas.Result.{IfErr-weaker, err_from_is_err_and}
 pub use Rattle.std.proofs.lemmas.Slice.Eq.{bytes_eq-Decides}
-pub use Rattle.std.specs.List.{list_any, position_or_len, slice_get}
+pub use Rattle.std.specs.List.{position_or_len, slice_get}
 pub use Rattle.std.specs.Map.{lookup}
 pub use Rattle.std.specs.Option.{option_map, option_or, option_to_list, option_map_or}
 pub use Rattle.std.specs.Result.{result_ok, result_map_both}

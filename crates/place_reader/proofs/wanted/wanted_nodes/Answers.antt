@@ -7,8 +7,12 @@ pub loop-register-preserved : goal.loop-register-preserved
 loop-register-preserved c = (
   names_next _ _ (register_nodes c.args.circuit.now c.args.host.now) c.loop-register.register _
       c.register_node.ensures c.loop-register.invariant.0 c.in_ok-insert.ensures.names,
-  omega (arith, ap length c.in_ok-insert.ensures.names, c.loop-register.invariant.1,
-      with_name-length c.loop-register.names c.register_node.result.now),
+  omega (
+    arith,
+    ap length c.in_ok-insert.ensures.names,
+    c.loop-register.invariant.1,
+    with_name-length c.loop-register.names c.register_node.result.now,
+  ),
 )
 
 pub returns : goal.returns

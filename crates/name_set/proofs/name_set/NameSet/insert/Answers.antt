@@ -17,4 +17,5 @@ returns-clause-new c = rw (← c.self.view_is) (c.in_ok-insert.ensures.added ∙
 
 pub returns-clause-names : goal.returns-clause-names
 returns-clause-names c = rw (← c.self.view_is, c.in_ok-insert.ensures.keys)
-    (insert_key-map (λ key. key.bytes.now) c.self.inside.names.keys (record { bytes = c.args.name }))
+    (insert_key-map (λ key. key.bytes.now) c.self.inside.names.keys
+    (record { bytes = c.args.name }))
