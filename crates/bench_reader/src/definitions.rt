@@ -1,4 +1,4 @@
-ghost use Rattle.std.specs.Prelude.{◌≡◌, ◌≤◌, ◌+◌, List, ℕ, [], ◌∷◌, ◌++◌, None, Some, length, MatchResult, if◌then◌else◌};
+ghost use Rattle.std.specs.Prelude.{◌≡◌, ◌≤◌, ◌+◌, List, ℕ, [], ◌∷◌, ◌++◌, None, Some, length, IfOk, MatchResult, if◌then◌else◌};
 ghost use Rattle.cts_base.specs.LineFormats.{IsFaultOf};
 ghost use Rattle.cts_model.specs.Vocabulary.{is_register, is_gate, statement_of};
 ghost use Rattle.bench_reader.specs.Faults.{bench_line_fault};
@@ -9,12 +9,16 @@ ghost use Rattle.bench_reader.specs.View.{said_by};
 use crate::kinds::{kind_of, may_have};
 use crate::statement::Statement;
 use crate::{BenchFault, Which};
+use cts_base::NoMemory;
 use cts_model::Kind;
 use name_set::{HashKey, NameSet};
 use std::alloc::Global;
 
 // The most signals that a netlist defines.
 const MAX_SIGNALS: usize = 65536;
+
+// How many bytes a line has, about, that defines a signal.
+const LINE_BYTES: usize = 32;
 
 // The most registers that a netlist defines.
 const MAX_REGISTERS: u32 = 4096;
@@ -35,15 +39,17 @@ pub(crate) struct Definitions<'a> {
 impl<'a> Definitions<'a> {
     ghost use Rattle.bench_reader.specs.Taken.{HasDefinitions, Adds, excess_after, fault_after};
 
-    /// No definitions yet, of names under this key. It takes no memory.
-    pub(crate) fn new(alloc: Global, key: HashKey) -> Definitions<'a>
-        ensures { HasDefinitions result [] }
+    /// No definitions of this text yet, with room for as many as it has of usual length.
+    pub(crate) fn new(alloc: Global, text: &[u8]) -> Result<Definitions<'a>, NoMemory>
+        ensures { IfOk result (λ none. HasDefinitions none []) }
     {
-        Definitions {
-            names: NameSet::new(alloc, key),
+        let room = MAX_SIGNALS.min(text.len() / LINE_BYTES);
+        let names = NameSet::with_room(alloc, room, HashKey::of_text(text))?;
+        Ok(Definitions {
+            names,
             registers: 0,
             gate_inputs: 0,
-        }
+        })
     }
 
     /// Takes in what the statement of the line of this number defines, if nothing is wrong with it.

@@ -6,7 +6,6 @@ use crate::definitions::Definitions;
 use crate::said::{Reading, Said};
 use crate::statement::Statement;
 use cts_base::{Line, LineFormat, read_lines};
-use name_set::HashKey;
 use std::alloc::Global;
 
 // What the lines so far define, and what they say.
@@ -62,7 +61,7 @@ pub(crate) fn read_statements(alloc: Global, bytes: &[u8]) -> Result<Reading<'_>
         (IsFaultOf BenchFault.NoMemory (first_fault bench_line_fault bytes.now)) }
 {
     let mut statements = Statements {
-        definitions: Definitions::new(alloc, HashKey::of_text(bytes)),
+        definitions: Definitions::new(alloc, bytes)?,
         said: Vec::new(alloc),
     };
     read_lines(&mut statements, bytes)?;

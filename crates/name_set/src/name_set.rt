@@ -36,6 +36,18 @@ impl<'a> NameSet<'a> {
         }
     }
 
+    /// The same, with room for so many names.
+    ///
+    /// # Errors
+    ///
+    /// There is no memory for the room.
+    pub fn with_room(alloc: Global, names: usize, key: HashKey) -> Result<NameSet<'a>, NoMemory>
+        ensures { IfOk result (λ names. names ≡ []) }
+    {
+        let names = IndexSet::with_capacity_and_hasher(alloc, names, key)?;
+        Ok(NameSet { names })
+    }
+
     /// The key under which the names are hashed.
     pub fn key(&self) -> HashKey {
         *self.names.hasher()
