@@ -28,9 +28,14 @@ fi
 
 # run INPUT COMMAND: the command on an input of this name.
 run() {
-    local words=()
-    [ "$2" != synth ] || words=(--pl "$work/$1.pl")
-    "$program" "$2" --bench "$work/$1.bench" --tech "$work/$1.toml" ${words[@]+"${words[@]}"}
+    local words=(--bench "$work/$1.bench")
+    case $2 in
+        synth) words+=(--tech "$work/$1.toml" --pl "$work/$1.pl") ;;
+        margin) words+=(--tech "$work/$1.toml" --period 100000) ;;
+        corners) words+=("$work/$1.toml") ;;
+        *) words+=(--tech "$work/$1.toml") ;;
+    esac
+    "$program" "$2" "${words[@]}"
 }
 
 # least STATUS COMMAND..: the least processor time of three runs in milliseconds, if they end with this status.
@@ -58,14 +63,32 @@ compare() {
     fi
 }
 
-for command in period schedule; do
+# holds KIND MOST: the slow input of this kind takes at most so many times its size of memory, and 8 MB.
+holds() {
+    local kind=$1 most=$2 size peak
+    size=$(stat -c %s "$work/$kind.slow.bench") || return
+    peak=$(python3 -c 'import resource, subprocess, sys
+subprocess.run(sys.argv[1:], stdout=subprocess.DEVNULL, check=True)
+print(resource.getrusage(resource.RUSAGE_CHILDREN).ru_maxrss * 1024)' "$program" zero --bench "$work/$kind.slow.bench")
+    if [ -n "$peak" ] && [ "$peak" -le $((most * size + 8000000)) ]; then
+        passed=$((passed + 1))
+    else
+        failed=$((failed + 1))
+        echo "slow: $kind of $size bytes takes ${peak:-no} bytes of memory"
+    fi
+}
+
+for command in period schedule margin corners; do
     for kind in zigzag hub far_hub rings; do
-        compare "$kind" "$command" 3 0
+        [ "$command $kind" = "margin rings" ] || compare "$kind" "$command" 3 0
     done
 done
 compare names zero 3 0
 compare placed_names synth 3 0
 compare long_key zero 6 3 0
+compare array zero 3 3
+compare headers zero 6 3
+holds outputs 9
 
 echo "slow: $passed passed, $failed failed"
 [ "$failed" = 0 ]

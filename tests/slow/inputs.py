@@ -44,7 +44,10 @@ def chain(length, each, joined, hub_joined, raised):
     lines.append("w = NOR(" + ", ".join(f"{all_joined}{one}" for one in range(joined)) + ")")
     if hub_joined:
         lines.append("v = AND(m, w)")
-    kinds = {"NAND": FLOOR, "NOT": FLOOR + raised, "XOR": FLOOR + 1, "AND": 0, "XNOR": FLOOR - length - 1, "OR": 1, "NOR": FLOOR // 2}
+    # A loop at the floor, so that the greatest margin there is 0.
+    lines += ["l = DFF(ll)", "ll = NAND(l)"]
+    kinds = {"NAND": FLOOR, "NOT": FLOOR + raised, "XOR": FLOOR + 1, "AND": 0, "XNOR": FLOOR - length - 1, "OR": 1}
+    kinds["NOR"] = FLOOR // 2
     return lines, table({kind: (delay, 0) for kind, delay in kinds.items()}, floor=FLOOR)
 
 
@@ -79,8 +82,14 @@ def placement_of_names(names):
     return lines, table({}, setup=1), places + [f"{names[4095]} 0 0"] * 60_000
 
 
-def table_with(line):
-    return ["INPUT(x)", "r = DFF(x)"], table({}, setup=1) + line + "\n"
+def outputs(lines):
+    """Many lines that name one output."""
+    return ["INPUT(x)", "r = DFF(g)", "g = NOT(r)"] + ["OUTPUT(g)"] * lines, table({"NOT": (1, 0)})
+
+
+def table_with(lines):
+    """A delay table that isn't one, for these lines at its end."""
+    return ["INPUT(x)", "r = DFF(x)"], table({}, setup=1) + lines + "\n"
 
 
 def write(base, lines, delays, places=None):
@@ -92,12 +101,16 @@ def write(base, lines, delays, places=None):
 
 def main(folder, names_file=None):
     long_name = "a" * 16_000_000
+    keys = "".join(f"k{key:05} = 1\n" for key in range(80_000))
     pairs = {
         "zigzag": (chain(600, 1, 400, False, 60_000), chain(600, 1, 400, False, 0)),
         "hub": (chain(800, 1, 300, True, 60_000), chain(800, 1, 300, True, 0)),
         "far_hub": (chain(800, 3, 300, True, 60_000), chain(800, 3, 300, True, 0)),
         "rings": (rings(200, 400, 400, True), rings(200, 400, 400, False)),
+        "outputs": (outputs(200_000), outputs(1)),
         "long_key": (table_with(f"{long_name} = 1"), table_with(f"# {long_name}")),
+        "array": (table_with("x = [" + "{a=1}," * 150_000 + "]"), table_with(keys)),
+        "headers": (table_with("".join(f"[b{key}.c.d]\n" for key in range(70_000))), table_with(keys)),
     }
     if names_file:
         with open(names_file) as file:
