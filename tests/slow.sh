@@ -1,7 +1,7 @@
 #!/usr/bin/env bash
 # Times the built program on inputs that are made to hurt, each beside an ordinary one of its size: of three runs of each the least
 # processor time, and the ratio of the two. The inputs are made by tests/slow/inputs.py. Without a C compiler names that collide are
-# left out. usage: tests/slow.sh [PROGRAM]
+# left out. With --times the answer is a table of the times in milliseconds. usage: tests/slow.sh [--times] [PROGRAM]
 set -u
 [ "${1-}" != --help ] || exec sed -n '2,/^[^#]/s/^# //p' "$0"
 top=$(cd "$(dirname "${BASH_SOURCE[0]}")/.." && pwd) || exit 1
@@ -11,6 +11,11 @@ passed=0
 failed=0
 TIMEFORMAT='%U %S'
 
+table=
+if [ "${1-}" = --times ]; then
+    table=yes
+    shift
+fi
 program=${1-}
 if [ -z "$program" ]; then
     "$top/cts" build || exit 1
@@ -57,6 +62,7 @@ compare() {
     slow=$(least "$status" run "$kind.slow" "$command") && usual=$(least "$usual_status" run "$kind.usual" "$command") || slow=
     if [ -n "$slow" ] && awk -v slow="$slow" -v usual="$usual" -v most="$most" 'BEGIN { exit !(slow <= most * (usual + 5)) }'; then
         passed=$((passed + 1))
+        [ -z "$table" ] || printf '| `%s` | %s | %.0f | %.0f |\n' "$command" "${kind//_/ }" "$slow" "$usual"
     else
         failed=$((failed + 1))
         echo "slow: $command of $kind takes ${slow:-no} ms beside ${usual:-no} ms: $(head -c 200 "$work/err")"
@@ -78,6 +84,9 @@ print(resource.getrusage(resource.RUSAGE_CHILDREN).ru_maxrss * 1024)' "$program"
     fi
 }
 
+if [ -n "$table" ]; then
+    printf '| Command | Input | Made to hurt | Usual |\n|---|---|---|---|\n'
+fi
 for command in period schedule margin corners; do
     for kind in zigzag hub far_hub rings; do
         [ "$command $kind" = "margin rings" ] || compare "$kind" "$command" 3 0
@@ -90,5 +99,5 @@ compare array zero 3 3
 compare headers zero 6 3
 holds outputs 9
 
-echo "slow: $passed passed, $failed failed"
+[ -n "$table" ] || echo "slow: $passed passed, $failed failed"
 [ "$failed" = 0 ]
