@@ -1,57 +1,58 @@
 #!/usr/bin/env bash
-# Runs the clock tree synthesizer: the proved program where it is newer than its sources, else an
-# unproved run of the same sources. `cts build` proves and builds the program. `cts --help` and
-# `cts --version` are answered here; all other words are the program's.
+# The clock tree synthesizer: runs the proved program where it was built of the sources as they are, else an unproved run of the same
+# sources. Words that mean no command and a netlist that can't be read need neither. `cts --help` says what it answers itself.
 set -u
-top=$(cd "$(dirname "$(readlink -f "${BASH_SOURCE[0]}")")" && pwd) || exit 1
-crate=$top/crates/cts_program
-program=$crate/out/cts_program
-# Written by `cts build`: when it began to read the sources. A program of `rt ci` has none.
-begun=$crate/out/built
+version=1.0.0
+here=$(cd "$(dirname "$(readlink -f "${BASH_SOURCE[0]}")")" && pwd) || exit 1
 most_bytes=16777216
-build_time='about half an hour on 4 processors'
+room=
+declare -A crate_of=() share_of=() begun_at=()
+
+if [ -e "$here/share/commands.txt" ]; then
+    top=$here
+    share=$here/share
+    program=$here/crates/cts_program/out/cts_program
+else
+    # As `cts install` puts it.
+    top=
+    share=${here%/*}/share/cts
+    program=${here%/*}/libexec/cts/cts_program
+fi
+archive=$top/crates/cts_c/out/libcts_c.a
 
 say() {
     echo "cts: $1" >&2
 }
 
-help() {
-    cat <<'END'
-cts: the clock tree synthesizer that proves its answer
-
-  cts zero --bench F [--tech F]                      the least period at equal arrivals
-  cts period --bench F --tech F                      the least period that any arrivals allow
-  cts schedule --bench F --tech F                    that period, the least arrivals and the slacks
-  cts synth --bench F --tech F --pl F                the same and the clock tree: a report
-  cts check --bench F --tech F --pl F --report F     whether a report shows what it says
-  cts embed --bench F --tech F --pl F --topology F   as synth, with merges that are given
-  cts margin --bench F --tech F --period P           what every check can spare at a period
-  cts moves --bench F --tech F --pl F --moves F      how long the tree is as registers move
-  cts corners --bench F TABLE ..                     the least period of several delay tables at once
-  cts demo --registers N --seed S                    a circuit of its own, synthesized and checked
-  cts build                                          proves the program and builds it
-
-F is a file, P a period in ticks, N a number from 2 to 1000 and S one from 0 to 999. Examples of each file
-stand in examples/. README.md begins with one, docs/COMMANDS.md has what each command prints and its
-statuses, docs/FORMATS.md the files, docs/REPORT.md the report, docs/FLOW.md the way from Verilog.
-END
+# Makes known what share/words.sh and share/explain.sh know.
+read_words() {
+    . "$share/words.sh"
+    . "$share/explain.sh"
+    read_table
 }
 
-version() {
-    local commit
-    commit=$(git -C "$top" describe --always --dirty 2>/dev/null) || commit='of no commit'
-    echo "cts $commit, with reports of version 2"
-    if is_stale; then
-        echo "no proved program is newer than its sources; ./cts build makes one"
-    else
-        echo "the proved program is $program"
-    fi
+# Makes the folder for what a run leaves, which goes with the script, as do the processes that it began.
+make_room() {
+    [ -z "$room" ] || return 0
+    room=$(mktemp -d) || exit 1
+    trap leave EXIT
+    trap 'exit 129' HUP
+    trap 'exit 130' INT
+    trap 'exit 141' PIPE
+    trap 'exit 143' TERM
 }
 
-# The crates that the program is made of, each behind those that it uses, and of others the one with
-# the longest chain of crates above it first.
+leave() {
+    local process
+    for process in "${!crate_of[@]}"; do kill -- "-$process" 2>/dev/null; done
+    wait "${!crate_of[@]}" 2>/dev/null
+    rm -rf "$room"
+}
+
+# The lines of crates.txt of a crate and of those that it is made of, each behind those that it uses, and of others the one with the
+# longest chain of crates above it first.
 crates() {
-    awk -F: '
+    awk -F: -v top="$1" '
         function above(name,   user, most) {
             if (name in chain) return chain[name]
             most = 0
@@ -70,132 +71,90 @@ crates() {
         { sub(/#.*/, "") }
         NF > 1 { split($1, words, " "); used[words[1]] = $2 }
         END {
-            take("cts_program")
+            take(top)
             for (name in used) if (!(name in taken)) delete used[name]
-            for (name in used) print above(name), name
+            for (name in used) print above(name), name ":" used[name]
         }
-    ' "$top/crates.txt" | sort -k1,1nr -k2 | cut -d ' ' -f 2
+    ' "$top/crates.txt" | sort -k1,1nr -k2 | cut -d ' ' -f 2-
 }
 
-# The libraries that a crate uses, those of the kit too.
-uses() {
-    awk -F: -v name="$1" '{ sub(/#.*/, ""); split($1, words, " ") } words[1] == name { print $2 }' \
-        "$top/crates.txt"
+# The line that says of which sources a program or a library is: a sum of all, by their names and bytes, and of which crate uses which.
+mark_of() {
+    local rows folders sum
+    mapfile -t rows < <(crates "$1")
+    folders=("${rows[@]%%:*}")
+    sum=$(
+        cd "$top" || exit
+        {
+            printf '%s\n' "${rows[@]}"
+            find "${folders[@]/#/crates/}" -regex 'crates/[^/]*/out' -prune -o -type f \( -name '*.rt' -o -name '*.antt' \) -print0 \
+                | LC_ALL=C sort -z | xargs -0 sha256sum
+        } | sha256sum
+    )
+    echo "cts sources ${sum%% *}"
 }
 
-# Whether a source, or a folder of sources, is newer than the program.
-is_stale() {
-    [ -x "$program" ] || return 0
-    local since=$program name folders=()
-    [ ! -e "$begun" ] || since=$begun
-    for name in $(crates); do
-        folders+=("$top/crates/$name/src" "$top/crates/$name/specs" "$top/crates/$name/proofs")
-    done
-    [ -n "$(find "$top/crates.txt" "${folders[@]}" -newer "$since" -print -quit 2>/dev/null)" ]
+# Whether the program or the library is there and was built of the sources as they are.
+is_current() {
+    [ -n "$top" ] || return 0
+    case $1 in
+        cts_program) [ -x "$program" ] && [ "$(tail -c 77 "$program" | tr -d '\0')" = "$(mark_of "$1")" ] ;;
+        cts_c) [ -e "$archive" ] && [ "$(cat "$archive.sources" 2>/dev/null)" = "$(mark_of "$1")" ] ;;
+    esac
 }
 
 needs_rt() {
     command -v rt >/dev/null 2>&1 && return
+    [ ! -e "$program" ] || say "$program doesn't say that it was built of these sources"
     say "the command rt of the Rattle toolchain is missing"
     exit 127
 }
 
-# Proves one crate on so many processors and builds it.
-prove() {
-    cd "$top/crates/$1" || return 1
-    if [ "$1" = cts_program ]; then
-        # rt builds a program by running it: this run answers the netlist that lies beside it.
-        exec rt run --jobs "$2" -- zero --bench data/lenient.bench
+commit() {
+    if [ -z "$top" ]; then
+        cat "$share/commit"
+    else
+        git -C "$top" describe --always --dirty 2>/dev/null
     fi
-    exec rt lib --jobs "$2"
 }
 
-# How many processors to use: a check takes up to 4 GB.
-processors() {
-    local processors checks
-    processors=$(nproc)
-    checks=$(awk '/^MemAvailable:/ { print int($2 / 4000000) }' /proc/meminfo)
-    [ "$checks" -ge 1 ] || checks=1
-    echo $((processors < checks ? processors : checks))
+version() {
+    local commit
+    commit=$(commit)
+    echo "cts $version${commit:+, commit $commit}, with reports of version 2"
+    if is_current cts_program; then
+        echo "the proved program is $program"
+    else
+        echo "there is no proved program of these sources; ./cts build makes one"
+    fi
 }
 
-minutes() {
-    printf '%d:%02d' $(($1 / 60)) $(($1 % 60))
-}
-
-# Starts the crates that use no crate which isn't built, as far as processors are free.
-start_crates() {
-    local name use ready=() share
-    for name in "${left[@]}"; do
-        for use in $(uses "$name"); do
-            [[ " ${left[*]} ${crate_of[*]-} " != *" $use "* ]] || continue 2
-        done
-        ready+=("$name")
-    done
-    while [ "$free" -gt 0 ] && [ ${#ready[@]} -gt 0 ]; do
-        share=$((free > ${#ready[@]} ? free / ${#ready[@]} : 1))
-        (prove "${ready[0]}" "$share") >"$room/${ready[0]}" 2>&1 </dev/null &
-        crate_of[$!]=${ready[0]}
-        share_of[$!]=$share
-        begun_at[$!]=$SECONDS
-        free=$((free - share))
-        mapfile -t left < <(printf '%s\n' "${left[@]}" | grep -vx "${ready[0]}")
-        ready=("${ready[@]:1}")
-    done
-}
-
-# Ends the crates in work, however the script ends.
-leave() {
-    local process
-    for process in "${!crate_of[@]}"; do kill -- "-$process" 2>/dev/null; done
-    wait "${!crate_of[@]}" 2>/dev/null
-    rm -rf "$room"
-}
-
-# Proves the crates side by side, each once those that it uses are built.
-build() {
-    needs_rt
-    touch "$room/begun"
-    local left free count built=0 failed='' process status name next
-    mapfile -t left < <(crates)
-    count=${#left[@]}
-    free=$(processors)
-    say "proving and building $count crates on $free processors; from nothing $build_time"
-    # Each crate has a process group of its own, which ends with this script.
-    set -m
-    start_crates
-    say "first ${crate_of[*]}"
-    while [ ${#crate_of[@]} -gt 0 ]; do
-        wait -n -p process "${!crate_of[@]}"
-        status=$?
-        name=${crate_of[$process]}
-        free=$((free + share_of[$process]))
-        unset "crate_of[$process]"
-        if [ "$status" -ne 0 ]; then
-            failed=yes
-            left=()
-            tail -n 20 "$room/$name" >&2
-            say "$name wasn't built"
-            continue
+# Answers at once where the words mean no command, or the netlist can't be read, which the program would see first. Of another file it
+# says so and goes on, since the program judges those before it.
+answer_at_once() {
+    local option file
+    if ! is_command "$@"; then
+        [ ! -t 2 ] || explain usage: "$@"
+        usage_line >&2
+        exit 2
+    fi
+    for option in "${options[@]}"; do
+        [ "${value_of[$option]}" = F ] && file=$(value_among "$option" "$@"; echo .) && file=${file%.} || continue
+        [ -n "$file" ] && [ -n "$(why_unread "$file")" ] || continue
+        if [ "$option" = --bench ]; then
+            [ ! -t 2 ] || explain 'read fault bench' "$@"
+            echo 'read fault bench' >&2
+            exit 4
         fi
-        built=$((built + 1))
-        start_crates
-        next=${crate_of[*]:+; now ${crate_of[*]}}
-        say "$built of $count: $name in $(minutes $((SECONDS - begun_at[$process])))$next"
+        say "$file: $(why_unread "$file")"
     done
-    set +m
-    [ -z "$failed" ] || return 1
-    touch -r "$room/begun" "$begun"
-    say "built in $(minutes "$SECONDS")"
 }
 
-# Answers the words by an unproved run, which gets copies of the files that they name. It returns
-# where that run has no answer.
+# Answers the words by an unproved run, which gets copies of the files that they name. It returns where that run has no answer.
 answer_unproved() {
-    needs_rt
-    say "no proved program is newer than the sources, so this run is unproved; it takes a minute"
+    local words=() files=() option='' word status process
+    say "no proved program of these sources is there, so this run is unproved; it takes a minute"
     say "./cts build proves and builds the program once, in $build_time"
-    local words=() files=() option='' word status
     for word in "$@"; do
         # The tables of `corners` stand as plain words after its option.
         [ "$1" != corners ] || [ ${#words[@]} -lt 3 ] || option=--tech
@@ -212,12 +171,20 @@ answer_unproved() {
         esac
         option=$word
     done
-    (cd "$crate" && rt try ${files[@]+"${files[@]}"} -- ${words[@]+"${words[@]}"}) \
-        >"$room/out" 2>"$room/err" </dev/null
+    # It has a process group of its own, which ends with this script.
+    set -m
+    (cd "$top/crates/cts_program" && exec rt try ${files[@]+"${files[@]}"} -- ${words[@]+"${words[@]}"}) \
+        >"$room/out" 2>"$room/err" </dev/null &
+    process=$!
+    crate_of[$process]=cts_program
+    wait "$process"
     status=$?
+    unset "crate_of[$process]"
+    set +m
     # Only this says that the status is the program's own and none of rt's.
     tail -n 1 "$room/err" | grep -q "^run=ended status=$status " || return
-    head -n -2 "$room/err" >&2
+    head -n -2 "$room/err" >"$room/said"
+    tell "$room/said" "$@"
     if ! cat "$room/out" 2>/dev/null; then
         echo "write fault" >&2
         exit 5
@@ -225,32 +192,93 @@ answer_unproved() {
     exit "$status"
 }
 
-case $* in
-    --help)
-        help
-        exit 0
-        ;;
-    --version)
-        version
-        exit 0
-        ;;
-esac
-if [ "$*" != build ] && ! is_stale; then
-    exec "$program" "$@"
-fi
-room=$(mktemp -d) || exit 1
-declare -A crate_of=() share_of=() begun_at=()
-trap leave EXIT
-trap 'exit 129' HUP
-trap 'exit 130' INT
-trap 'exit 141' PIPE
-trap 'exit 143' TERM
-if [ "$*" = build ]; then
-    is_stale || exit 0
-    build
+# Says what a run has left on its error output, and on a terminal before it what that means.
+tell() {
+    local line=
+    [ ! -t 2 ] || ! read -r line <"$1" || explain "$line" "${@:2}"
+    cat "$1" >&2
+}
+
+run_program() {
+    local status
+    [ -t 2 ] || exec "$program" "$@"
+    read_words
+    make_room
+    "$program" "$@" 2>"$room/err"
+    status=$?
+    tell "$room/err" "$@"
+    exit "$status"
+}
+
+# Builds, or takes what `rt ci` built; an installed program has nothing to build of.
+build_here() {
+    if [ -z "$top" ]; then
+        say 'this is an installed program, which has no sources'
+        exit 1
+    fi
+    . "$share/build.sh"
+    "$@"
     exit
-fi
+}
+
+# The folder that `install` and `uninstall` work below.
+install_here() {
+    local action=$1
+    prefix=/usr/local
+    [ -n "$top" ] || prefix=${here%/*}
+    [ $# -eq 1 ] || prefix=$(realpath -m -- "$3")
+    if [ -z "$top" ] && [ "$action" = install ]; then
+        say "this is an installed program, below $prefix"
+        exit 1
+    fi
+    . "$share/install.sh"
+    "$action"
+    exit
+}
+
+# Prints a text as the program would: where that fails its line says so, and none of the shell's.
+print_whole() {
+    { printf '%s\n' "$1"; } 2>/dev/null && exit
+    echo 'write fault' >&2
+    exit 5
+}
+
+# The help of one command, or of a word that the script answers itself.
+help_about() {
+    if is_among "$1" "${commands[@]}"; then
+        print_whole "$(help_of "$1")"
+    elif is_among "$1" "${own[@]}"; then
+        print_whole "cts $1: ${own_says[$1]}"
+    fi
+}
+
+# Answers what the program doesn't know, and ends. Other words it leaves alone.
+answer_own() {
+    case $#:${1-}:${2-} in
+        1:help: | 1:-h: | 1:--help:) read_words && print_whole "$(help)" ;;
+        1:-V: | 1:--version:) print_whole "$(version)" ;;
+        2:help:?*) read_words && help_about "$2" ;;
+        2:?*:--help | 2:?*:-h) read_words && help_about "$1" ;;
+        1:build:) build_here build cts_program ;;
+        2:build:library) build_here build cts_c ;;
+        3:build:--gate) build_here take_of_gate "$3" ;;
+        2:sources:*) mark_of "$2" && exit ;;
+        1:install: | 3:install:--prefix | 1:uninstall: | 3:uninstall:--prefix) install_here "$@" ;;
+        *:build:* | *:install:* | *:uninstall:*)
+            say 'as one of: cts build [library], cts install [--prefix DIR], cts uninstall [--prefix DIR]'
+            exit 2
+            ;;
+    esac
+}
+
+answer_own "$@"
+! is_current cts_program || run_program "$@"
+read_words
+answer_at_once "$@"
+needs_rt
+make_room
+. "$share/build.sh"
 answer_unproved "$@"
 say "the unproved run has no answer: $(tail -n 1 "$room/err")"
-build || exit 1
-"$program" "$@"
+build cts_program || exit 1
+run_program "$@"
