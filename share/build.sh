@@ -118,6 +118,10 @@ build() {
 # it is refused.
 take_of_gate() {
     local changed folders
+    if [[ ! $1 =~ ^[0-9]+(\.[0-9]+)?$ ]]; then
+        say 'cts build --gate wants the time at which rt ci began, in seconds since 1970'
+        return 2
+    fi
     cd "$top" || return
     mapfile -t folders < <(crates cts_program | sed 's|\(.*\):.*|crates/\1|')
     changed=$(

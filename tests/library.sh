@@ -30,13 +30,12 @@ if [ -z "$program" ]; then
 fi
 examples=$top/examples
 
-# Whether `rt ci` was the last to build the library of each crate below. It proves these and leaves no stamp on them, so
-# that `rt lib` would prove them all again. One that is kept has the time of its first proof, so the program's time
-# counts, which is linked anew after each change of code. After a change of words alone `rt lib` does prove them again.
+# Whether `rt ci` was the last to build the library of each crate below it, of the sources as they are. It proves these and leaves no
+# stamp on them, so that `rt lib` would prove them all again.
 are_left_by_ci() {
     local built=$top/crates/cts_engine/out/rlib linked=$top/crates/cts_program/out/cts_program
     [ -d "$built" ] && [ ! -e "$built/stamp" ] && [ -e "$linked" ] &&
-        [ -z "$(find "$top"/crates/*/{src,specs,proofs} \( -name '*.rt' -o -name '*.antt' \) -newer "$linked" -print -quit)" ]
+        [ "$(tail -c 77 "$linked" | tr -d '\0')" = "$("$top/cts" sources cts_program)" ]
 }
 
 # Proves `cts_c` over those libraries and builds the archive, as `rt lib` does.
@@ -54,8 +53,10 @@ archive_over() {
 }
 
 archive=$top/crates/cts_c/out/libcts_c.a
+sources=$("$top/cts" sources cts_c)
 if are_left_by_ci; then (archive_over); else (cd "$top/crates/cts_c" && rt lib); fi >"$work/said" 2>&1 ||
     { tail -n 20 "$work/said"; exit 1; }
+[ "$sources" != "$("$top/cts" sources cts_c)" ] || echo "$sources" >"$archive.sources"
 
 # holds NAME COMMAND..: the command ends with status 0. What it says is shown where it doesn't.
 holds() {
@@ -137,6 +138,22 @@ for compiler in "${compilers[@]}"; do
     fi
 done
 has python3 || left_out 'there is no python3' 'the example in Python'
+# As it is installed, a compiler finds it by pkg-config.
+installed() {
+    local flags
+    "$top/cts" install --prefix "$work/prefix" && flags=$(pkg-config --cflags --libs cts) &&
+        flags="$examples/library/library.c $(pkg-config --variable=heap cts) $flags" &&
+        # shellcheck disable=SC2086
+        "${compilers[0]}" -o "$work/installed" $flags && "$top/cts" uninstall --prefix "$work/prefix" && [ ! -e "$work/prefix" ]
+}
+if [ -n "${1-}" ]; then
+    left_out 'the program is another one' 'the library as it is installed'
+elif ! has pkg-config; then
+    left_out 'there is no pkg-config' 'the library as it is installed'
+else
+    PKG_CONFIG_PATH=$work/prefix/lib/pkgconfig holds 'the library as it is installed' installed
+    ways+=("$work/installed")
+fi
 echo '#include "cts.h"' >"$work/header.cc"
 if has c++; then
     holds 'the header in C++' c++ -Wall -Wextra -Werror -I "$top/include" -c -o "$work/header.o" "$work/header.cc"

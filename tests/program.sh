@@ -181,17 +181,57 @@ named() { (exec -a zero "$program" "$@"); }
 expect 'a command as the name' 2 '' "$usage" named --bench "$s27"
 expect 'another name' 0 $'zero 10\nsetup G6 G5 10' '' named zero --bench "$s27"
 
-# The script answers for itself with no program there, and with a toolchain that only says that it was started.
-mkdir -p "$work/bare" "$work/fake"
-cp "$top/cts" "$top/crates.txt" "$work/bare"
+# The script answers for itself with no program there, and with a toolchain that only says that it was started, or none.
+mkdir -p "$work/bare" "$work/fake" "$work/tools"
+cp -r "$top/cts" "$top/crates.txt" "$top/share" "$work/bare"
 (cd "$top" && find crates -maxdepth 1 -type d -exec mkdir -p "$work/bare/{}" \;)
+for name in awk bash cat chmod cut dirname env find git grep head install mkdir mktemp mv nproc readlink realpath rm rmdir sed \
+    sha256sum sort tail tr wc xargs; do
+    ln -s "$(command -v "$name")" "$work/tools/$name"
+done
+ln -s "$(python3 -c 'import sys; print(sys.executable)')" "$work/tools/python3"
+without_rt() { PATH=$work/tools "$@"; }
+without_rt "$top/tests/rows.py" --at-once "$work/bare/cts" || failed=$((failed + 1))
 printf '#!/bin/sh\necho $$ >>"%s"\nexec sleep 300\n' "$work/started" >"$work/fake/rt"
 chmod +x "$work/fake/rt"
 : >"$work/started"
-helped() { "$work/bare/cts" --help | grep -o '^  cts [a-z]*' | grep -v build | sort; }
-expect 'a line of help for each command' 0 "$(grep -o 'cts [a-z]*' <<<"$usage" | sed 's/^/  /' | sort)" '' helped
-expect 'which version' 0 $'cts of no commit, with reports of version 2
-no proved program is newer than its sources; ./cts build makes one' '' env GIT_DIR=/dev/null "$work/bare/cts" --version
+helped() { "$work/bare/cts" "$@" | grep -o '^  cts [-a-z]*' | grep -Ev ' (help|--version|build|install|uninstall)$' | sort; }
+commands=$(grep -o 'cts [a-z]*' <<<"$usage" | sed 's/^/  /' | sort)
+for word in help -h --help; do expect "a line for each command of $word" 0 "$commands" '' helped "$word"; done
+version=$(sed -n 's/^version=//p' "$top/cts")
+for word in -V --version; do
+    expect "which version by $word" 0 "cts $version, with reports of version 2
+there is no proved program of these sources; ./cts build makes one" '' env GIT_DIR=/dev/null "$work/bare/cts" "$word"
+done
+# The help of a command begins with its words of the usage line, and names each of its options and the statuses that it can have.
+help_of_each() {
+    local name words option
+    while read -r _ name words; do
+        "$work/bare/cts" "$name" --help >"$work/help" && "$work/bare/cts" help "$name" | cmp - "$work/help" || return
+        [ "$(head -n 1 "$work/help")" = "cts $name $words" ] || echo "$name"
+        for option in $(grep -o -e '--[a-z]*' <<<"$words"); do grep -q -e "^  $option " "$work/help" || echo "$name $option"; done
+        [ "$(grep -c '^  status' "$work/help")" -ge 5 ] && [ "$(wc -l <"$work/help")" -le 24 ] || echo "$name: statuses"
+    done < <(sed 's/^usage: //; s/ | /\n/g' <<<"$usage")
+}
+expect 'help of each command' 0 '' '' help_of_each
+full_help() { "$work/bare/cts" "$@" >/dev/full; }
+closed_help() { "$work/bare/cts" "$@" >&-; }
+for words in --help --version help 'period --help'; do
+    # shellcheck disable=SC2086
+    expect "$words into a full output" 5 '' 'write fault' full_help $words
+    # shellcheck disable=SC2086
+    expect "$words into a closed output" 5 '' 'write fault' closed_help $words
+done
+# On a terminal a line in words stands before the program's.
+on_terminal() { script -qec "$(printf '%q ' "$@")" /dev/null </dev/null | tr -d '\r'; }
+explained() { on_terminal "$work/bare/cts" "$@" | grep -v '^usage: '; }
+expect 'a command that is misspelt' 0 "cts: no command 'perod'; did you mean period?" '' explained perod
+expect 'an option that is misspelt' 0 "cts: zero has no option '--bensh'; did you mean --bench?" '' explained zero --bensh F
+expect 'an option that is missing' 0 'cts: synth wants --pl F too' '' explained synth --bench F --tech T
+expect 'a number out of range' 0 "cts: --registers wants a number from 2 to 1000, and not '1'" '' explained demo --registers 1 --seed 0
+expect 'a fraction that can be reduced' 0 "cts: --period wants a number such as 14 or 25/2, in lowest terms, and not '6/4'" '' \
+    explained margin --bench F --tech T --period 6/4
+expect 'a file that is missing' 0 $'cts: nowhere: there is no such file\nread fault bench' '' explained zero --bench nowhere
 # Each script says what it does, and does nothing else.
 scripts() {
     local script
@@ -201,12 +241,12 @@ scripts() {
 }
 expect 'help of each script' 0 '' '' scripts
 expect 'nothing was started' 0 '' '' cat "$work/started"
-# interrupted SIGNAL: a build that gets it when it has begun, its status, and the provers that are left then. Under nohup, too, it
+# interrupted SIGNAL WORD..: a call that gets it when it has begun, its status, and the provers that are left then. Under nohup, too, it
 # begins with the signal not ignored.
 interrupted() {
     local build process
     : >"$work/started"
-    PATH=$work/fake:$PATH env --default-signal="$1" "$work/bare/cts" build 2>/dev/null &
+    PATH=$work/fake:$PATH env --default-signal="$1" "$work/bare/cts" "${@:2}" 2>/dev/null &
     build=$!
     while [ ! -s "$work/started" ]; do sleep 0.1; done
     kill -s "$1" "$build"
@@ -216,9 +256,10 @@ interrupted() {
         ! kill -0 "$process" 2>/dev/null || echo "$process is left"
     done <"$work/started"
 }
-expect 'a build that is hung up' 0 'status 129' '' interrupted HUP
-expect 'a build whose reader is gone' 0 'status 141' '' interrupted PIPE
-expect 'a build that is ended' 0 'status 143' '' interrupted TERM
+expect 'a build that is hung up' 0 'status 129' '' interrupted HUP build
+expect 'a build whose reader is gone' 0 'status 141' '' interrupted PIPE build
+expect 'a build that is ended' 0 'status 143' '' interrupted TERM build
+expect 'an unproved run that is ended' 0 'status 143' '' interrupted TERM zero --bench "$s27"
 
 # Reports of many registers.
 long_row() {
@@ -247,15 +288,105 @@ expect 'a report where more pairs are joined' 7 '' 'not shown 5 schedule misses 
 scarce() { (ulimit -v 16384 && "$program" "$@"); }
 expect 'too little memory' 6 '' 'no memory' scarce zero --bench "$work/largest.bench"
 
-# A copy with no program answers all the same, by a run that isn't proved.
+# A program that is copied into a newer clone is that clone's, where it was built of the same sources, and no other. No rt is needed.
 mkdir "$work/copy"
-tar -C "$top" --exclude=out --exclude=.git -cf - . | tar -C "$work/copy" -xf -
-unproved='cts: no proved program is newer than the sources, so this run is unproved; it takes a minute'
+tar -C "$top" --exclude=out --exclude=.git -cf - . | tar -C "$work/copy" --touch -xf -
+built=$work/copy/crates/cts_program/out/cts_program
+mkdir "${built%/*}"
+if [ "$program" = "$top/crates/cts_program/out/cts_program" ]; then
+    cp -p "$program" "$built"
+else
+    { cat "$program" && echo && "$work/copy/cts" sources cts_program; } >"$built"
+    chmod +x "$built"
+fi
+copy() { without_rt "$work/copy/cts" "$@"; }
+words_of_build='cts: as one of: cts build [library], cts install [--prefix DIR], cts uninstall [--prefix DIR]'
+expect 'a program that is copied' 0 $'zero 15\nsetup G6 G5 15' '' copy zero --bench "$s27" --tech "$table"
+expect 'a program that is copied is built' 0 '' '' copy build
+expect 'the gate built no program' 1 '' 'cts: rt ci has built no program since then' copy build --gate "$EPOCHREALTIME"
+expect 'no time of a gate' 2 '' 'cts: cts build --gate wants the time at which rt ci began, in seconds since 1970' copy build --gate soon
+
+# What it is installed as, from there, with no sources and no rt.
+prefix="$work/a prefix"
+listed() { (cd "$prefix" 2>/dev/null && find . -type f | sed 's|^\./||' | LC_ALL=C sort); }
+installed() { copy install --prefix "$prefix" | sed "s|^$prefix/||" | LC_ALL=C sort; }
+files='bin/cts
+libexec/cts/cts_program
+share/bash-completion/completions/cts
+share/cts/commands.txt
+share/cts/commit
+share/cts/explain.sh
+share/cts/faults.txt
+share/cts/install.sh
+share/cts/words.sh
+share/man/man1/cts.1
+share/zsh/site-functions/_cts'
+left_out='cts: the library for C is left out, as it is not built: ./cts build library makes it'
+expect 'what is installed' 0 "$files" "$left_out" installed
+expect 'what is installed once more' 0 "$files" "$left_out" installed
+expect 'what stands there' 0 "$(LC_ALL=C sort <<<"$files"$'\nshare/cts/installed')" '' listed
+elsewhere() { (cd / && without_rt "$prefix/bin/cts" "$@"); }
+ln -s "$prefix/bin/cts" "$work/tools/cts"
+expect 'an answer of it' 0 $'zero 15\nsetup G6 G5 15' '' elsewhere zero --bench "$s27" --tech "$table"
+expect 'an answer by its name' 2 '' "$usage" without_rt cts perod
+expect 'its version' 0 "cts $version, with reports of version 2
+the proved program is $prefix/libexec/cts/cts_program" '' env GIT_DIR=/dev/null PATH="$work/tools" "$prefix/bin/cts" --version
+expect 'its help' 0 "$commands" '' eval 'elsewhere help | grep -o "^  cts [-a-z]*" | grep -Ev " (help|--version|build|install|uninstall)$" | sort'
+expect 'its terminal' 0 $'cts: '"$work"$'/bare: that is a directory\nread fault bench' '' on_terminal "$prefix/bin/cts" zero --bench "$work/bare"
+expect 'it has nothing to build' 1 '' 'cts: this is an installed program, which has no sources' elsewhere build
+# The completions know the commands, the options of each, and what is a file.
+completed() {
+    bash -c 'source "$1"; COMP_WORDS=("${@:2}"); COMP_CWORD=$(($# - 2)); compopt() { :; }; _cts; printf "%s\n" "${COMPREPLY[@]}"' \
+        - "$prefix/share/bash-completion/completions/cts" "$@"
+}
+expect 'a command that is completed' 0 $'margin\nmoves' '' completed cts m
+expect 'an option that is completed' 0 $'--period' '' completed cts margin --bench x --pe
+expect 'a file that is completed' 0 "$s27" '' completed cts zero --bench "${s27%nch}"
+expect 'a number that is not completed' 0 '' '' completed cts demo --seed ''
+completes_zsh() { ! command -v zsh >/dev/null || zsh -n "$prefix/share/zsh/site-functions/_cts"; }
+expect 'completions of zsh' 0 '' '' completes_zsh
+shows_man_page() { ! command -v man >/dev/null || MANWIDTH=1000 man --warnings -l "$prefix/share/man/man1/cts.1" | grep -c 'Its statuses are'; }
+! command -v man >/dev/null || expect 'the man page' 0 "$(wc -l <<<"$commands")" '' shows_man_page
+# Taken away by itself, it leaves nothing but what was there before.
+mkdir -p "$work/before/share/man"
+expect 'an install beside others' 0 "$(wc -l <<<"$files")" "$left_out" eval 'copy install --prefix "$work/before" | wc -l'
+expect 'an uninstall' 0 "$(($(wc -l <<<"$files") + 1))" '' eval '"$work/before/bin/cts" uninstall | grep -c "^removed "'
+expect 'what is left' 0 "$work/before/share/man" '' find "$work/before" -mindepth 2 -type d
+expect 'an uninstall of nothing' 1 '' "cts: nothing is installed below $work/before" copy uninstall --prefix "$work/before"
+expect 'an uninstall from the clone' 0 "$(($(wc -l <<<"$files") + 1))" '' eval 'copy uninstall --prefix "$prefix" | wc -l'
+expect 'nothing is left' 1 '' '' test -e "$prefix"
+expect 'other words of install' 2 '' "$words_of_build" copy install here
+expect 'other words of build' 2 '' "$words_of_build" copy build libary
+
+# A source that was changed since, or one more, makes the program another's, whatever the times of files say.
+source=$work/copy/crates/cts_base/src/lib.rt
+other=$'cts: '"$built"$' doesn\'t say that it was built of these sources\ncts: the command rt of the Rattle toolchain is missing'
+touch -r "$built" "$work/time"
+cp -p "$source" "$work/source"
+echo '// One line more.' >>"$source"
+touch -d 2000-01-01 "$source"
+expect 'a source that was changed' 127 '' "$other" copy zero --bench "$s27"
+expect 'nothing to install' 1 '' 'cts: there is no proved program of these sources: ./cts build makes it, or copy it from where it was built' \
+    copy install --prefix "$prefix"
+cp "$work/source" "$source"
+expect 'as it was' 0 $'zero 10\nsetup G6 G5 10' '' copy zero --bench "$s27"
+echo '//! One file more.' >"${source%/*}/more.rt"
+expect 'a source that was added' 127 '' "$other" copy zero --bench "$s27"
+rm "${source%/*}/more.rt"
+head -c -1 "$built" >"$work/cut" && cp "$work/cut" "$built"
+expect 'a program that was cut' 127 '' "$other" copy zero --bench "$s27"
+rm -r "${built%/*}"
+
+# A copy with no program answers all the same, by a run that isn't proved. Of a file behind the netlist it says at once that it is
+# missing.
+unproved='cts: no proved program of these sources is there, so this run is unproved; it takes a minute'
 unproved+=$'\ncts: ./cts build proves and builds the program once, in about half an hour on 4 processors'
 copied() { (cd "$work" && copy/cts period --bench late.bench --tech late.toml); }
 printf 'A = DFF(A)\n' >"$work/late.bench"
 registers 0 2 1 1 >"$work/late.toml"
 expect 'an unproved run' 1 $'never\ncycle 1\nhold A A 1' "$unproved" copied
+expect 'a table that is missing' 127 '' $'cts: nowhere: there is no such file\ncts: the command rt of the Rattle toolchain is missing' \
+    copy zero --bench "$s27" --tech nowhere
 
 echo "program: $passed passed, $failed failed"
 [ "$failed" -eq 0 ]

@@ -83,7 +83,7 @@ def files_of(row, texts):
     return files
 
 
-def left_by(program, row, texts):
+def left_by(program, row, texts, seconds):
     """The status, the output and the error output that a row's call leaves in a folder with its files."""
     with tempfile.TemporaryDirectory() as folder, tempfile.TemporaryFile() as out:
         os.symlink(os.path.join(ROOT, "examples"), os.path.join(folder, "examples"))
@@ -95,19 +95,19 @@ def left_by(program, row, texts):
         call = [program, *shlex.split(filled(row["call"], texts))]
         limit = (row["room"], row["room"]) if "room" in row else resource.getrlimit(resource.RLIMIT_FSIZE)
         # The signal for a write past the limit stays ignored, as it is in Python: the write fails.
-        done = subprocess.run(call, cwd=folder, stdin=subprocess.DEVNULL, stdout=out, stderr=subprocess.PIPE, timeout=100,
+        done = subprocess.run(call, cwd=folder, stdin=subprocess.DEVNULL, stdout=out, stderr=subprocess.PIPE, timeout=seconds,
                               check=False, restore_signals=False,
                               preexec_fn=lambda: resource.setrlimit(resource.RLIMIT_FSIZE, limit))
         out.seek(0)
         return done.returncode, out.read(), done.stderr
 
 
-def fault_of(program, row, texts):
+def fault_of(program, row, texts, seconds=100):
     """What is wrong with what a row leaves, if anything is."""
     line = filled(row.get("line", ""), texts)
     expected = row["status"], filled(row.get("text", ""), texts).encode()[:row.get("room")], (line and line + "\n").encode()
     try:
-        left = left_by(program, row, texts)
+        left = left_by(program, row, texts, seconds)
     except (ValueError, subprocess.TimeoutExpired) as error:
         return str(error)[:400]
     names = ("status", "output", "error output")
@@ -115,9 +115,19 @@ def fault_of(program, row, texts):
                      for name, seen, due in zip(names, left, expected) if seen != due)
 
 
+def fault_at_once(script, row, texts):
+    """What is wrong with the answer of the script `cts` without a program and without rt, for a row of wrong words or of a file
+    that can't be read. It comes within a second. Where the program would judge a file before it, the script says that rt is missing."""
+    if row["status"] == 4 and row["line"] != "read fault bench":
+        return "" if left_by(script, row, texts, 1)[:2] == (127, b"") else "an answer before the netlist is judged"
+    return fault_of(script, row, texts, 1)
+
+
 def main():
     words = argparse.ArgumentParser(description=__doc__, formatter_class=argparse.RawDescriptionHelpFormatter)
     words.add_argument("program", nargs="?", help="without it the proved one, built first where it is stale")
+    words.add_argument("--at-once", action="store_true", help="the program is the script, with no program and no rt: only rows of wrong "
+                       "words and of files that can't be read are run, each within a second")
     words.add_argument("--text", metavar="NAME", help="print this text of texts.toml, and run no row")
     given = words.parse_args()
     shared = read(SHARED, {})[1]
@@ -135,7 +145,10 @@ def main():
             print(f"rows: {name} holds {len(rows)} rows, and not {held['count']}")
             failed += 1
         for row in rows:
-            fault = fault_of(program, row, texts)
+            # The script answers words of help itself.
+            if given.at_once and (row["status"] not in (2, 4) or "--help" in row["call"]):
+                continue
+            fault = (fault_at_once if given.at_once else fault_of)(program, row, texts)
             if fault:
                 print(f"rows: {name}, {row['title']}, row {row['number']}: {row['call']}: {fault}")
             failed += bool(fault)
