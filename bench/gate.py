@@ -1,5 +1,6 @@
 #!/usr/bin/env python3
-"""Runs `rt ci` and tells what it is made of: processor minutes of each crate's proof, of its tests, and of its edits.
+"""Runs `rt ci` and prints the table of what it is made of: processor minutes of each crate's proof, of its tests, and of its edits,
+and at last how long it took by the clock. `bench/page.py gate` puts the table into docs/BENCHMARKS.md.
 
 usage: bench/gate.py [NAME..]     the words are those of `rt ci`; its output goes to standard error
 
@@ -62,19 +63,16 @@ def look(top, seconds):
             seconds[process, kind] = spent
 
 
-def table(seconds):
+def table(seconds, clock):
     minutes = collections.defaultdict(lambda: collections.defaultdict(float))
-    counts = collections.Counter()
     for (_, (crate, kind)), spent in seconds.items():
         minutes[crate][kind] += spent / 60
-        counts[crate, kind] += 1
     rows = sorted(minutes, key=lambda crate: -sum(minutes[crate].values()))
-    print("| Crate | Proof | Tests | Edits begin | Edits | Number | All |\n|---|---|---|---|---|---|---|")
-    for crate in rows + ["all"]:
-        spent = {kind: sum(minutes[row][kind] for row in (rows if crate == "all" else [crate])) for kind in KINDS}
-        number = sum(counts[row, "edits"] for row in (rows if crate == "all" else [crate]))
-        cells = " | ".join(f"{spent[kind]:.1f}" for kind in KINDS)
-        print(f"| {crate} | {cells} | {number} | {sum(spent.values()):.1f} |")
+    print("| Crate | Proof | Tests | Edits begin | Edits | All |\n|---|---|---|---|---|---|")
+    for name, crates in [*((f"`{crate}`", [crate]) for crate in rows), ("all", rows)]:
+        spent = [sum(minutes[crate][kind] for crate in crates) for kind in KINDS]
+        print(f"| {name} | {' | '.join(f'{one:.1f}' for one in spent)} | {sum(spent):.1f} |")
+    print(f"| by the clock | | | | | {clock:.0f} |")
 
 
 def main():
@@ -90,8 +88,7 @@ def main():
     while gate.poll() is None:
         look(gate.pid, seconds)
         time.sleep(1)
-    table(seconds)
-    print(f"\n{(time.time() - began) / 60:.0f} minutes by the clock, status {gate.returncode}")
+    table(seconds, (time.time() - began) / 60)
     sys.exit(gate.returncode)
 
 

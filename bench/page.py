@@ -4,7 +4,7 @@
 usage: bench/page.py [--program FILE] [WORD]
 
 A command is a block of indented lines with a table behind it, or several. With WORD only those that have the word in them are
-run. The program is the built one, or the one that is named.
+run, and without it all but the gate. The program is the built one, or the one that is named.
 """
 import argparse
 import os
@@ -20,7 +20,7 @@ BLOCK = re.compile(r"((?:^    \S.*\n)+)\n((?:^\|.*\n)+(?:\n(?:^\|.*\n)+)*)", re.
 def measured(match, words):
     """The block with the table that its command prints now."""
     command, table = match.groups()
-    if words.word not in command:
+    if words.word not in command or ("gate" in command and not words.word):
         return match[0]
     print(command, end="", flush=True)
     if words.program:

@@ -1,6 +1,6 @@
 #!/usr/bin/env python3
-"""Runs the commands of the README and of the pages of docs/ whose output stands there, compares the two, and counts them. And
-follows the links between the pages."""
+"""Runs the commands of the README and of the pages of docs/ whose output stands there, compares the two, and counts them. It follows
+the links between the pages, looks at the lengths that some have at most, and at what share/make.py makes of tables and pages."""
 import argparse
 import glob
 import os
@@ -10,8 +10,9 @@ import sys
 import tempfile
 
 ROOT = os.path.dirname(os.path.dirname(os.path.abspath(__file__)))
-PAGES = ["README.md", "CONTRIBUTING.md"] + sorted(glob.glob("docs/*.md", root_dir=ROOT))
+PAGES = ["README.md", "CONTRIBUTING.md", "CHANGELOG.md"] + sorted(glob.glob("docs/*.md", root_dir=ROOT))
 PAGES += sorted(glob.glob("crates/*/README.md", root_dir=ROOT))
+MOST_LINES = {"README.md": 130, "docs/PROVING.md": 350}
 # How many commands of a page run; of any other page, none.
 COUNTS = {"README.md": 7, "docs/COMMANDS.md": 10, "docs/DEFINITIONS.md": 1, "docs/FLOW.md": 1}
 
@@ -51,7 +52,11 @@ def main():
     argparse.ArgumentParser(description=__doc__).parse_args()
     # A program that is newer than the sources is used as it is.
     subprocess.run([os.path.join(ROOT, "cts"), "build"], check=True)
-    passed, failed = 0, 0
+    passed, failed = 0, subprocess.run([os.path.join(ROOT, "share/make.py"), "--check"], check=False).returncode
+    for page, most in MOST_LINES.items():
+        if text_of(page).count("\n") > most:
+            print(f"{page} has more than {most} lines")
+            failed += 1
     for page in sorted({*PAGES, *COUNTS}):
         count = sum(map(len, blocks(page)))
         if count != COUNTS.get(page, 0):
