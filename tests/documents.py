@@ -50,7 +50,7 @@ def dead_links(page):
 
 def main():
     argparse.ArgumentParser(description=__doc__).parse_args()
-    # A program that is newer than the sources is used as it is.
+    # A proved program of these sources is used as it is.
     subprocess.run([os.path.join(ROOT, "cts"), "build"], check=True)
     passed, failed = 0, subprocess.run([os.path.join(ROOT, "share/make.py"), "--check"], check=False).returncode
     for page, most in MOST_LINES.items():

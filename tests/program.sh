@@ -31,7 +31,7 @@ registers() {
     printf '%b' "${5-}"
 }
 
-# A proved program that is newer than the sources is used as it is.
+# A proved program of these sources is used as it is.
 cts=$top/cts
 program=$top/crates/cts_program/out/cts_program
 if [ -n "${1-}" ]; then

@@ -125,7 +125,7 @@ def fault_at_once(script, row, texts):
 
 def main():
     words = argparse.ArgumentParser(description=__doc__, formatter_class=argparse.RawDescriptionHelpFormatter)
-    words.add_argument("program", nargs="?", help="without it the proved one, built first where it is stale")
+    words.add_argument("program", nargs="?", help="without it the proved one, built first where it is of other sources")
     words.add_argument("--at-once", action="store_true", help="the program is the script, with no program and no rt: only rows of wrong "
                        "words and of files that can't be read are run, each within a second")
     words.add_argument("--text", metavar="NAME", help="print this text of texts.toml, and run no row")
