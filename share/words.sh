@@ -156,6 +156,8 @@ is_command() {
     [ -z "$wrong" ] || return 1
     if [ $# -eq 0 ]; then
         wrong='there is no command; cts help lists them'
+    elif is_among "$command" "${own[@]}"; then
+        wrong="$command doesn't take these words; cts help says what it does"
     elif ! is_among "$command" "${commands[@]}"; then
         wrong="no command '$command'$(did_you_mean "$command" "${commands[@]}" "${own[@]}")"
     elif [[ ${usage_of[$command]} != *' T1 .. Tk' ]]; then

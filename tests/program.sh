@@ -333,6 +333,25 @@ expect 'its version' 0 "cts $version, with reports of version 2
 the proved program is $prefix/libexec/cts/cts_program" '' env GIT_DIR=/dev/null PATH="$work/tools" "$prefix/bin/cts" --version
 expect 'its help' 0 "$commands" '' eval 'elsewhere help | grep -o "^  cts [-a-z]*" | grep -Ev " (help|--version|build|install|uninstall)$" | sort'
 expect 'its terminal' 0 $'cts: '"$work"$'/bare: that is a directory\nread fault bench' '' on_terminal "$prefix/bin/cts" zero --bench "$work/bare"
+sed 's/^setup = 1/setup = -1/' "$table" >"$work/negative.toml"
+expect 'a key out of range on a terminal' 0 "cts: $work/negative.toml: the delay table has a value out of range at register.setup; \
+register.setup is a whole number from 0 to 1,000,000"$'\nrefused tech 4 register.setup' '' \
+    on_terminal "$prefix/bin/cts" zero --bench "$s27" --tech "$work/negative.toml"
+{ cat "$s27" && printf '%0256d = NOT(G0)\n' 0; } >"$work/long_name.bench"
+expect 'a limit on a terminal' 0 "cts: $work/long_name.bench, line $(wc -l <"$work/long_name.bench"): the netlist has a name of more than \
+255 bytes"$'\nrefused bench 5 line '"$(wc -l <"$work/long_name.bench")"' name' '' \
+    on_terminal "$prefix/bin/cts" zero --bench "$work/long_name.bench"
+expect 'an answer on a terminal' 0 $'zero 10\nsetup G6 G5 10' '' on_terminal "$prefix/bin/cts" zero --bench "$s27"
+# Each line of the rows is told in words.
+untold() {
+    grep -oh '"\(refused\|not shown\|read fault\|write fault\|no memory\)[^"$]*"' "$top"/tests/rows/*.toml | tr -d '"' | sort -u | bash -c '
+        share=$1
+        say() { echo "$1"; }
+        . "$share/words.sh" && . "$share/explain.sh" && read_table
+        while read -r line; do [ -n "$(explain "$line" zero --bench F)" ] || echo "$line"; done
+    ' - "$top/share"
+}
+expect 'a line without a meaning' 0 '' '' untold
 expect 'it has nothing to build' 1 '' 'cts: this is an installed program, which has no sources' elsewhere build
 # The completions know the commands, the options of each, and what is a file.
 completed() {
