@@ -262,7 +262,7 @@ answer_own() {
         1:build:) build_here build cts_program ;;
         2:build:library) build_here build cts_c ;;
         3:build:--gate) build_here take_of_gate "$3" ;;
-        2:sources:*) mark_of "$2" && exit ;;
+        2:sources:*) [ -z "$top" ] || { mark_of "$2" && exit; } ;;
         1:install: | 3:install:--prefix | 1:uninstall: | 3:uninstall:--prefix) install_here "$@" ;;
         *:build:* | *:install:* | *:uninstall:*)
             say 'as one of: cts build [library], cts install [--prefix DIR], cts uninstall [--prefix DIR]'

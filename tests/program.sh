@@ -352,6 +352,7 @@ untold() {
     ' - "$top/share"
 }
 expect 'a line without a meaning' 0 '' '' untold
+expect 'it has no sources' 2 '' "$usage" elsewhere sources cts_program
 expect 'it has nothing to build' 1 '' 'cts: this is an installed program, which has no sources' elsewhere build
 # The completions know the commands, the options of each, and what is a file.
 completed() {
