@@ -34,7 +34,7 @@ sentence_for() {
     local line=$1 kind pattern text
     while IFS=$'\t' read -r kind pattern text; do
         sentence=$text
-        [ "$kind" != line ] || ! fits "$pattern" "$line" || return 0
+        [[ $kind != line || $line != "${pattern%%[A-Z]*}"* ]] || ! fits "$pattern" "$line" || return 0
     done <"$share/faults.txt"
     return 1
 }

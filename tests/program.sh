@@ -6,7 +6,8 @@ set -u
 [ "${1-}" != --help ] || exec sed -n '2,/^[^#]/s/^# //p' "$0"
 top=$(cd "$(dirname "${BASH_SOURCE[0]}")/.." && pwd) || exit 1
 work=$(mktemp -d) || exit 1
-trap 'rm -rf "$work"' EXIT
+late=
+trap 'kill $late 2>/dev/null; rm -rf "$work"' EXIT
 passed=0
 failed=0
 
@@ -40,6 +41,15 @@ if [ -n "${1-}" ]; then
 else
     "$cts" build || exit 1
 fi
+
+# A copy with no program answers all the same, by a run that isn't proved. It takes a minute, beside all others.
+copy_to() { mkdir "$1" && tar -C "$top" --exclude=out --exclude=.git -cf - . | tar -C "$1" --touch -xf -; }
+copy_to "$work/unbuilt"
+printf 'A = DFF(A)\n' >"$work/late.bench"
+registers 0 2 1 1 >"$work/late.toml"
+(cd "$work" && exec unbuilt/cts period --bench late.bench --tech late.toml) >"$work/late_out" 2>"$work/late_err" &
+late=$!
+
 "$top/tests/rows.py" "$program" || failed=1
 
 s27=$top/examples/s27.bench
@@ -289,8 +299,7 @@ scarce() { (ulimit -v 16384 && "$program" "$@"); }
 expect 'too little memory' 6 '' 'no memory' scarce zero --bench "$work/largest.bench"
 
 # A program that is copied into a newer clone is that clone's, where it was built of the same sources, and no other. No rt is needed.
-mkdir "$work/copy"
-tar -C "$top" --exclude=out --exclude=.git -cf - . | tar -C "$work/copy" --touch -xf -
+copy_to "$work/copy"
 built=$work/copy/crates/cts_program/out/cts_program
 mkdir "${built%/*}"
 if [ "$program" = "$top/crates/cts_program/out/cts_program" ]; then
@@ -397,14 +406,18 @@ head -c -1 "$built" >"$work/cut" && cp "$work/cut" "$built"
 expect 'a program that was cut' 127 '' "$other" copy zero --bench "$s27"
 rm -r "${built%/*}"
 
-# A copy with no program answers all the same, by a run that isn't proved. Of a file behind the netlist it says at once that it is
-# missing.
+# What the unproved run has said. Of a file behind the netlist that is missing the script says so at once.
 unproved='cts: no proved program of these sources is there, so this run is unproved; it takes a minute'
 unproved+=$'\ncts: ./cts build proves and builds the program once, in about half an hour on 4 processors'
-copied() { (cd "$work" && copy/cts period --bench late.bench --tech late.toml); }
-printf 'A = DFF(A)\n' >"$work/late.bench"
-registers 0 2 1 1 >"$work/late.toml"
-expect 'an unproved run' 1 $'never\ncycle 1\nhold A A 1' "$unproved" copied
+come_late() {
+    local status
+    wait "$late"
+    status=$?
+    late=
+    cat "$work/late_out" && cat "$work/late_err" >&2
+    return "$status"
+}
+expect 'an unproved run' 1 $'never\ncycle 1\nhold A A 1' "$unproved" come_late
 expect 'a table that is missing' 127 '' $'cts: nowhere: there is no such file\ncts: the command rt of the Rattle toolchain is missing' \
     copy zero --bench "$s27" --tech nowhere
 
