@@ -1,6 +1,6 @@
 -- The text of each command for a circuit and its delays is one of counted lines, and its status
 -- says whether a period is admitted.
-use Rattle.answer_texts.proofs.Vocabulary.{◌≡◌, ◌<◌, ◌≤◌, inl, inr, ℕ, zero, suc, ℤ, true, List, [], ◌∷◌, ◌++◌, length, map, nat_abs, refl, ap, sym, subst, append-nil, arith, pos, ints, length-map, length-replicate, All-weaker, Fraction, Circuit, Constraint, PeriodShow, Problem, First, Second, Tech, Topology, IsBetweenRegisters, report_lines, Words, text_of, show_lines, IsCycle, HasNoPeriod, IsForbidding, IsLeastFraction, tails_within, CornersOutcome, AreOfCorners, IsCommonShow, IsCornersOutcome, Form, MarginOutcome, IsMarginOutcome, wire_line, report_lines_are, all_at_zero, cornered_line_at, cornered_lines, common_show_lines, corners_lines, corners_status, IsCornersText, summary_lines, IsSummaryText, IsDemoText, IsTreeText, IsSynthesisText, IsEmbeddingText, margin_lines, IsMarginText, period_lines, never_lines, outcome_status, IsPeriodText, schedule_lines, IsScheduleText, IsFoundOrNever, IsSynthText, IsEmbedText, zero_lines, IsZeroText}
+use Rattle.answer_texts.proofs.Vocabulary.{◌≡◌, ◌<◌, ◌≤◌, inl, inr, ℕ, zero, suc, ℤ, true, List, [], ◌∷◌, ◌++◌, length, map, nat_abs, refl, ap, sym, subst, append-nil, arith, pos, ints, length-map, length-replicate, All-weaker, Fraction, Circuit, Constraint, PeriodShow, Problem, First, Second, Tech, Topology, IsBetweenRegisters, report_lines, Words, text_of, show_lines, IsCycle, HasNoPeriod, IsForbidding, IsLeastFraction, tails_within, CornersOutcome, AreOfCorners, IsCommonShow, IsCornersOutcome, Form, MarginOutcome, IsMarginOutcome, wire_line, report_lines_are, all_at_zero, cornered_line_at, cornered_lines, common_show_lines, corners_lines, corners_status, IsCornersText, summary_lines, IsSummaryText, IsDemoText, IsTreeText, IsSynthesisText, IsEmbeddingText, margin_lines, IsMarginText, period_lines, never_lines, outcome_status, IsPeriodText, schedule_lines, IsScheduleText, IsCheckable, IsFoundOrNever, IsSynthText, IsEmbedText, zero_lines, IsZeroText}
 use Rattle.cts_model.specs.declared.period.PeriodShow.TheVariants as shows
 use Rattle.answer_texts.specs.Types.{Point}
 use Rattle.cts_model.specs.Vocabulary.{IsWithinBounds, grid_of}
@@ -202,7 +202,7 @@ module _ (problem : Problem) where
   pub synth_text : (status : ℕ) (text : List ℕ) → IsSynthText problem status text
       → IsProblemText 0 forms.Synth status text
   synth_text = found_or_never 0 forms.Synth refl
-      (λ text. (is : IsSynthesisText problem text) × IsWithinBounds problem.tech is.tree.report)
+      (λ text. (is : IsSynthesisText problem text) × IsCheckable problem is.tree.report)
       (λ text says. tree_text forms.Synth refl refl text says.0.tree)
 
   -- or by one that is given
@@ -210,7 +210,7 @@ module _ (problem : Problem) where
       → IsEmbedText problem topology status text → IsProblemText 0 forms.Embed status text
   embed_text topology = found_or_never 0 forms.Embed refl
       (λ text. (is : IsEmbeddingText problem topology text)
-      × IsWithinBounds problem.tech is.tree.report)
+      × IsCheckable problem is.tree.report)
       (λ text says. tree_text forms.Embed refl refl text says.0.tree)
 
   -- there is a wire for the places as they are, and one for each move

@@ -1,12 +1,13 @@
 -- A text that spells the report of a clock tree, and the summary of one.
-use Rattle.answer_texts.proofs.Vocabulary.{◌≡◌, ℕ, List, refl, Problem, Report, Topology, text_of, report_lines, summary_lines, IsSummaryText, IsTreeText, IsSynthesisText, IsEmbeddingText}
-use Rattle.cts_model.specs.Vocabulary.{IsWithinBounds}
+use Rattle.answer_texts.proofs.Vocabulary.{◌≡◌, ℕ, List, refl, Problem, Report, Topology, text_of, report_lines, summary_lines, IsSummaryText, IsTreeText, IsSynthesisText, IsEmbeddingText, IsCheckable}
+use Rattle.cts_model.specs.Vocabulary.{IsShown}
 use Rattle.cert_check.specs.declared.verdict.Verdict.TheVariants.{Shown}
 use Rattle.cert_check.specs.Verdicts.{IsVerdict}
 use Rattle.outcomes.specs.Syntheses.{IsReportWith, IsReportOf}
 use Rattle.outcomes.specs.ShownCycles.{ShowsFromLowest}
 
-module _ (problem : Problem) (report : Report) (lowest : ShowsFromLowest report.shown) where
+module _ (problem : Problem) (report : Report) (lowest : ShowsFromLowest report.shown)
+    (shown : IsShown problem report) where
   -- the lines of a report of the problem spell a clock tree for it
   tree_spelled : (topology : Topology) → IsReportWith problem topology report → (text : List ℕ)
       → text ≡ text_of (report_lines problem.circuit report) → IsTreeText problem text
@@ -21,28 +22,28 @@ module _ (problem : Problem) (report : Report) (lowest : ShowsFromLowest report.
     lowest = lowest;
   }
 
-  -- that by the topology that is given, within bounds
+  -- that by the topology that is given
   pub embedding_spelled : (topology : Topology) → IsReportWith problem topology report
       → (text : List ℕ) → text ≡ text_of (report_lines problem.circuit report)
-      → (is : IsEmbeddingText problem topology text) × IsWithinBounds problem.tech is.tree.report
+      → (is : IsEmbeddingText problem topology text) × IsCheckable problem is.tree.report
   unfolding tree_spelled
   embedding_spelled topology made text spelled = (
     record { tree = tree_spelled topology made text spelled; given = made.given },
-    made.bounds,
+    record { bounds = made.bounds; shown = shown },
   )
 
   module _ (made : IsReportOf problem report) where
     -- and that by the greedy one
     pub synthesis_spelled : (text : List ℕ)
         → text ≡ text_of (report_lines problem.circuit report)
-        → (is : IsSynthesisText problem text) × IsWithinBounds problem.tech is.tree.report
+        → (is : IsSynthesisText problem text) × IsCheckable problem is.tree.report
     unfolding tree_spelled
     synthesis_spelled text spelled = (
       record {
         tree = tree_spelled report.topology made.made text spelled;
         greedy = made.greedy;
       },
-      made.made.bounds,
+      record { bounds = made.made.bounds; shown = shown },
     )
 
     -- so the summary of a report that the checker shows is one of that tree

@@ -37,5 +37,5 @@ pub use Rattle.answer_texts.specs.Headline.{IsTreeText, IsSynthesisText, IsEmbed
 pub use Rattle.answer_texts.specs.MarginTexts.{margin_lines, IsMarginText}
 pub use Rattle.answer_texts.specs.PeriodTexts.{period_lines, never_lines, outcome_status, IsPeriodText, found_lines}
 pub use Rattle.answer_texts.specs.ScheduleTexts.{schedule_lines, IsScheduleText, scheduled_line_at, register_lines}
-pub use Rattle.answer_texts.specs.SynthTexts.{IsFoundOrNever, IsSynthText, IsEmbedText, synthesis_lines, synthesis_status}
+pub use Rattle.answer_texts.specs.SynthTexts.{IsCheckable, IsFoundOrNever, IsSynthText, IsEmbedText, synthesis_lines, synthesis_status}
 pub use Rattle.answer_texts.specs.ZeroTexts.{zero_lines, IsZeroText}

@@ -1,8 +1,8 @@
 -- What the commands `synth` and `embed` print: the report of a clock tree, or what forbids every
 -- period. Fishburn, "Clock Skew Optimization", 1990.
 use Rattle.std.specs.Prelude.{◌≡◌, ℕ, zero, suc, List}
-use Rattle.answer_texts.specs.Types.{Circuit, Constraint, Problem, Tech, Topology}
-use Rattle.cts_model.specs.Vocabulary.{IsForbidding, Words, text_of, IsWithinBounds, report_lines}
+use Rattle.answer_texts.specs.Types.{Circuit, Constraint, Problem, Report, Tech, Topology}
+use Rattle.cts_model.specs.Vocabulary.{IsForbidding, IsShown, Words, text_of, IsWithinBounds, report_lines}
 use Rattle.outcomes.specs.declared.synthesis.Outcome.{Outcome}
 use Rattle.outcomes.specs.declared.synthesis.Outcome.TheVariants.{Done, Never}
 use Rattle.outcomes.specs.SynthesisOutcomes.{BeginsLowest}
@@ -22,18 +22,22 @@ IsFoundOrNever problem Found zero text = Found text
 IsFoundOrNever problem Found (suc zero) text = IsNeverText problem.circuit problem.tech text
 IsFoundOrNever problem Found (suc (suc more)) text = ⊥
 
--- the bytes are a text for the problem, with its status; a tree's report is within the bounds in
--- which it is read again
+-- `check` reads such a report from its lines, and shows it
+pub record IsCheckable (problem : Problem) (report : Report) : Type 0 where
+  pub bounds : IsWithinBounds problem.tech report
+  pub shown : IsShown problem report
+
+-- the bytes are a text for the problem, with its status; `check` shows a tree's report
 abbrev pub IsSynthText : Problem → (status : ℕ) → List ℕ → Type 0
 IsSynthText problem status text = IsFoundOrNever problem
-    (λ bytes. (is : IsSynthesisText problem bytes) × IsWithinBounds problem.tech is.tree.report)
+    (λ bytes. (is : IsSynthesisText problem bytes) × IsCheckable problem is.tree.report)
     status text
 
 -- or for the problem by this topology
 abbrev pub IsEmbedText : Problem → Topology → (status : ℕ) → List ℕ → Type 0
 IsEmbedText problem topology status text = IsFoundOrNever problem
-    (λ bytes. (is : IsEmbeddingText problem topology bytes)
-    × IsWithinBounds problem.tech is.tree.report) status text
+    (λ bytes. (is : IsEmbeddingText problem topology bytes) × IsCheckable problem is.tree.report)
+    status text
 
 -- the lines for an outcome
 abbrev pub synthesis_lines : Circuit → Outcome → List Words

@@ -8,4 +8,4 @@ tree_answer-requires c =
 pub returns-clause-text : goal.returns-clause-text
 returns-clause-text c =
     synth_says c.args.problem.now c.in_ok-outcome.outcome c.in_ok-outcome.ensures.ok
-    c.in_ok-outcome.ensures.lowest _ _ c.in_ok-answer.ensures.ending c.in_ok-answer.ensures.text
+    c.in_ok-outcome.ensures.shown c.in_ok-outcome.ensures.lowest _ _ c.in_ok-answer.ensures.ending c.in_ok-answer.ensures.text
