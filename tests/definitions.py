@@ -1,6 +1,6 @@
 #!/usr/bin/env python3
-"""Follows each definition that the promises below and the clauses of `run` rest on, from file to file, and fails where no row of
-docs/DEFINITIONS.md names one with its file, where a row names one that its files don't have, where a part of them is larger than
+"""Follows each definition that the promises below and the clauses of `run` and of the calls for C rest on, from file to file, and
+fails where no row of docs/DEFINITIONS.md names one with its file, where a row names one that its files don't have, where a part of them is larger than
 the page says at its head, and where the table that is to be read first differs from the core."""
 import argparse
 import glob
@@ -16,7 +16,9 @@ PROMISES = [
     ("answer_texts", "MarginTexts", "IsMarginText"),
     ("answer_texts", "CornerTexts", "IsCornersText"),
 ]
-RUN = "crates/cts_program/src/run.rt"
+# Where calls stand whose clauses are followed, and how they begin.
+RUN = ("crates/cts_program/src/run.rt", r"pub fn run<")
+LIBRARY = ("crates/cts_c/src/*.rt", r'pub extern "C" fn ')
 # What the headline says of the chip: its period, its arrivals, its skews and its wire.
 CORE = [("outcomes", "Syntheses", "IsSynthesis")]
 HEAD = re.compile(r"(?:abbrev|unfoldable)? ?pub (?:record |data )?([^\s({:]+)")
@@ -90,15 +92,18 @@ def followed(texts, imports, start):
     return passed
 
 
-def clauses_of_run(texts, imports):
-    """The definitions that the clauses of `run` name."""
-    text = text_of(RUN)
-    here = ("cts_program", RUN)
-    imports[here] = imports_of(text)
-    clauses = re.search(r"^pub fn run<.*?^\{$", text, re.MULTILINE | re.DOTALL)
-    if not clauses:
-        sys.exit(f"{RUN} has no clauses of run")
-    return set(cited(texts, imports, clauses.group(), here)) - {None}
+def clauses_of(texts, imports, files, begin):
+    """The definitions that the clauses of some calls name."""
+    found = set()
+    for path in glob.glob(files, root_dir=ROOT):
+        text = text_of(path)
+        here = (path.split("/")[1], path)
+        imports[here] = imports_of(text)
+        for clauses in re.findall(rf"^{begin}.*?^\{{$", text, re.MULTILINE | re.DOTALL):
+            found.update(cited(texts, imports, clauses, here))
+    if not found:
+        sys.exit(f"{files} has no clauses of such calls")
+    return found - {None}
 
 
 def rows_of(page):
@@ -120,7 +125,7 @@ def rows_of(page):
 
 def sizes_told(page):
     """How many definitions and lines each part has at most, as the table at the head of the page says."""
-    rows = re.findall(r"^\| (core|headline|run) \|.*?\| ([\d,]+) \| ([\d,]+) \|$", page, re.MULTILINE)
+    rows = re.findall(r"^\| (core|headline|run|library) \|.*?\| ([\d,]+) \| ([\d,]+) \|$", page, re.MULTILINE)
     return {name: tuple(int(number.replace(",", "")) for number in numbers) for name, *numbers in rows}
 
 
@@ -130,11 +135,13 @@ def size_of(texts, definitions):
     return len(definitions), sum(1 for line in lines if line and not line.startswith("--"))
 
 
-def larger_parts(texts, imports, start, page):
-    """Each part that is larger than the page says, or that it doesn't name."""
+def larger_parts(texts, imports, run, library, page):
+    """Each part that is larger than the page says, or that it doesn't name. The library's is what the program doesn't rest on."""
     told = sizes_told(page)
-    for name, begin in (("core", CORE), ("headline", PROMISES[:1]), ("run", start)):
-        found = size_of(texts, followed(texts, imports, begin))
+    parts = {name: followed(texts, imports, begin) for name, begin in (("core", CORE), ("headline", PROMISES[:1]), ("run", run))}
+    parts["library"] = followed(texts, imports, library) - parts["run"]
+    for name, definitions in parts.items():
+        found = size_of(texts, definitions)
         if name not in told or any(here > most for here, most in zip(found, told[name])):
             yield f"docs/DEFINITIONS.md says {told.get(name)} definitions and lines of {name}, which has {found}"
 
@@ -157,10 +164,11 @@ def main():
     parser.add_argument("--of", nargs=3, metavar=("CRATE", "FILE", "NAME"), help="begin at this definition alone")
     other = parser.parse_args().of
     texts, imports = read_specs()
-    start = [tuple(other)] if other else PROMISES + sorted(clauses_of_run(texts, imports))
-    passed = followed(texts, imports, start)
+    run = PROMISES + sorted(clauses_of(texts, imports, *RUN))
+    library = sorted(clauses_of(texts, imports, *LIBRARY))
+    passed = followed(texts, imports, [tuple(other)] if other else run + library)
     page = text_of("docs/DEFINITIONS.md")
-    wrong = [] if other else [*larger_parts(texts, imports, start, page), *misread(texts, imports, page)]
+    wrong = [] if other else [*larger_parts(texts, imports, run, library, page), *misread(texts, imports, page)]
     print(*wrong, sep="\n", end="\n" if wrong else "")
     named, failed = set(), len(wrong)
     for names, places in rows_of(page):

@@ -1,5 +1,5 @@
 -- What two accounts of one answer leave.
-use Rattle.std.proofs.Common.{◌≡◌, ◌⊎◌, inl, inr, Result, Ok, Err, sym, ◌∙◌}
+use Rattle.std.proofs.Common.{◌≡◌, ◌⊎◌, inl, inr, Result, Ok, Err, IfOk, sym, ◌∙◌}
 
 module _ {T E : Type 0} (result : Result T E) where
   -- an answer is no value and no error at once, and it is one value, or one error
@@ -26,3 +26,10 @@ module _ {T E : Type 0} (result : Result T E) where
       | inl same ↦ one_value value wanted is same
       | inr same ↦ absurd (apart value free is same)
     ]
+
+-- what follows from two facts of a value
+pub both_ok : {T E : Type 0} → (result : Result T E) → (One Other Both : T → Type 0)
+    → ((value : T) → One value → Other value → Both value) → IfOk result One → IfOk result Other
+    → IfOk result Both
+both_ok (Ok value) One Other Both follows one other = follows value one other
+both_ok (Err error) One Other Both follows one other = tt

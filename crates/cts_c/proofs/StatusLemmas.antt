@@ -1,6 +1,30 @@
 -- What the status of a call rules out, and the text that it hands over.
-use Rattle.cts_c.proofs.Vocabulary.{◌≡◌, ◌≢◌, ◌⊎◌, inl, inr, ℕ, List, sym, ap, ◌∙◌, subst, arith, failure_status, IsEnding, IsFailure, IsStatus, Failure, NoMemory}
+use Rattle.cts_c.proofs.Vocabulary.{◌≡◌, ◌≢◌, ◌↔◌, ◌⊎◌, inl, inr, ℕ, List, sym, ap, ◌∙◌, subst, arith, failure_status, IsEnding, IsFailure, IsStatus, Failure, NoMemory}
+use Rattle.answer_texts.specs.PeriodTexts.{outcome_status}
+use Rattle.answer_texts.specs.SynthTexts.{synthesis_status}
+use Rattle.outcomes.specs.PeriodOutcomes as periods
+use Rattle.outcomes.specs.ScheduleOutcomes.{period_outcome}
+use Rattle.outcomes.specs.SynthesisOutcomes as syntheses
+use Rattle.outcomes.specs.declared.scheduling.ScheduleOutcome.{ScheduleOutcome}
+use Rattle.outcomes.specs.declared.scheduling.ScheduleOutcome.TheVariants as schedule
+use Rattle.outcomes.specs.declared.synthesis.Outcome.{Outcome}
+use Rattle.outcomes.specs.declared.synthesis.Outcome.TheVariants as synthesis
 use Rattle.cts_c.specs.Buffers.{IsHanded, IsTooLarge}
+
+module _ {None : Type 0} (status : ℕ) where
+  -- the status is 1 exactly where the outcome is that no period will do
+  pub never_scheduled : (outcome : ScheduleOutcome)
+      → status ≡ outcome_status (period_outcome outcome)
+      → (periods.IsNeverOutcome (period_outcome outcome) ↔ None) → (status ≡ 1) ↔ None
+  never_scheduled (schedule.Found zero period shown at slacks) found never =
+      (λ one. absurd (omega (arith, one, found)), λ none. absurd (never.1 none))
+  never_scheduled (schedule.Never cycle) is never = (λ one. never.0 tt, λ none. is)
+
+  pub never_built : (outcome : Outcome) → status ≡ synthesis_status outcome
+      → (syntheses.IsNeverOutcome outcome ↔ None) → (status ≡ 1) ↔ None
+  never_built (synthesis.Done report) done never =
+      (λ one. absurd (omega (arith, one, done)), λ none. absurd (never.1 none))
+  never_built (synthesis.Never cycle) is never = (λ one. never.0 tt, λ none. is)
 
 module _ (Is : ℕ → List ℕ → Type 0) (ending : ℕ) (text : List ℕ) (is : Is ending text)
     (before now : List ℕ) (status size : ℕ) where

@@ -1,5 +1,5 @@
 -- The words that the proofs of this crate have in common.
-pub use Rattle.std.proofs.Common.{◌≡◌, ℕ, List, inr, refl, ◌≢◌, ◌⊎◌, inl, sym, ap, ◌∙◌, subst, arith, Ok, Err}
+pub use Rattle.std.proofs.Common.{◌≡◌, ℕ, List, inr, refl, ◌≢◌, ◌↔◌, ◌⊎◌, inl, sym, ap, ◌∙◌, subst, arith, Ok, Err}
 pub use Rattle.std.proofs.lemmas.Result.{err_from_is_err_and, IfErr-weaker, IfOk-weaker}
 pub use Rattle.answer_texts.specs.Endings.{ending_status}
 pub use Rattle.cts_engine.proofs.OneProblem.{table_accepted, table_fine, one_problem, one_both}

@@ -47,65 +47,40 @@ judged_status Shown = 0
 judged_status _ = 7
 
 -- the number of a fault, and its line
-abbrev pub fault_number : ReportFault → ℕ
-fault_number (fault.BadLine line) = 1
-fault_number (fault.UnknownRegister line) = 2
-fault_number (fault.Missing line) = 3
-fault_number (fault.Extra line) = 4
-fault_number (fault.TooLarge line) = 5
-fault_number fault.NoMemory = 6
-fault_number (fault.UnknownSignal line) = 7
-
-abbrev pub fault_line : ReportFault → ℕ
-fault_line (fault.BadLine line) = line
-fault_line (fault.UnknownRegister line) = line
-fault_line (fault.Missing line) = line
-fault_line (fault.Extra line) = line
-fault_line (fault.TooLarge line) = line
-fault_line fault.NoMemory = 0
-fault_line (fault.UnknownSignal line) = line
+abbrev pub fault_numbers : ReportFault → ℕ × ℕ
+fault_numbers (fault.BadLine line) = (1, line)
+fault_numbers (fault.UnknownRegister line) = (2, line)
+fault_numbers (fault.Missing line) = (3, line)
+fault_numbers (fault.Extra line) = (4, line)
+fault_numbers (fault.TooLarge line) = (5, line)
+fault_numbers fault.NoMemory = (6, 0)
+fault_numbers (fault.UnknownSignal line) = (7, line)
 
 -- the number of a reason, and its place of the cycle, its node or its register
-abbrev pub reason_number : Reason → ℕ
-reason_number reason.BelowFloor = 1
-reason_number (reason.CycleBroken place) = 2
-reason_number (reason.NotOfCircuit place) = 3
-reason_number reason.CycleValue = 4
-reason_number (reason.ScheduleMisses register) = 5
-reason_number (reason.TreeShape node) = 6
-reason_number (reason.TooShort node) = 7
-reason_number (reason.WireSum node) = 8
-reason_number (reason.SkewDiffers register) = 9
-reason_number (reason.Unshown node) = 10
-reason_number reason.Total = 11
-reason_number (reason.SlackDiffers register) = 12
-reason_number (reason.PathBroken place) = 13
-reason_number (reason.NotLeast register) = 14
-
-abbrev pub reason_place : Reason → ℕ
-reason_place reason.BelowFloor = 0
-reason_place (reason.CycleBroken place) = place
-reason_place (reason.NotOfCircuit place) = place
-reason_place reason.CycleValue = 0
-reason_place (reason.ScheduleMisses register) = register
-reason_place (reason.TreeShape node) = node
-reason_place (reason.TooShort node) = node
-reason_place (reason.WireSum node) = node
-reason_place (reason.SkewDiffers register) = register
-reason_place (reason.Unshown node) = node
-reason_place reason.Total = 0
-reason_place (reason.SlackDiffers register) = register
-reason_place (reason.PathBroken place) = place
-reason_place (reason.NotLeast register) = register
+abbrev pub reason_numbers : Reason → ℕ × ℕ
+reason_numbers reason.BelowFloor = (1, 0)
+reason_numbers (reason.CycleBroken place) = (2, place)
+reason_numbers (reason.NotOfCircuit place) = (3, place)
+reason_numbers reason.CycleValue = (4, 0)
+reason_numbers (reason.ScheduleMisses register) = (5, register)
+reason_numbers (reason.TreeShape node) = (6, node)
+reason_numbers (reason.TooShort node) = (7, node)
+reason_numbers (reason.WireSum node) = (8, node)
+reason_numbers (reason.SkewDiffers register) = (9, register)
+reason_numbers (reason.Unshown node) = (10, node)
+reason_numbers reason.Total = (11, 0)
+reason_numbers (reason.SlackDiffers register) = (12, register)
+reason_numbers (reason.PathBroken place) = (13, place)
+reason_numbers (reason.NotLeast register) = (14, register)
 
 -- the numbers for it
 abbrev pub finding_of : Judged → Finding
 finding_of Shown = record { kind = 0; number = 0; place = 0 }
 finding_of TooLong = record { kind = 1; number = 0; place = 0 }
 finding_of (Faulty found) =
-    record { kind = 2; number = fault_number found; place = fault_line found }
+    record { kind = 2; number = (fault_numbers found).0; place = (fault_numbers found).1 }
 finding_of (Against found) =
-    record { kind = 3; number = reason_number found; place = reason_place found }
+    record { kind = 3; number = (reason_numbers found).0; place = (reason_numbers found).1 }
 
 -- three texts tell a problem, and the report comes to this, with the status
 pub record IsCheck (bench tech pl text : List ℕ) (status : ℕ) (finding : Finding)

@@ -1,7 +1,6 @@
 pub mod Buffers
 pub mod Findings
 pub mod Refusals
-pub mod ScheduleTexts
 pub mod Statuses
-pub mod SynthTexts
+pub mod TextAnswers
 pub mod Vocabulary

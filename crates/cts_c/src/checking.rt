@@ -39,6 +39,7 @@ pub extern "C" fn cts_check(
     ensures refused { result ≡ 3 → AreRefused bench.now tech.now pl.now }
     ensures accepted { (problem : Problem) → AreAllShort bench.now tech.now pl.now
         → TellAll bench.now tech.now pl.now problem → result ≢ 3 }
+    ensures long { (AreAllShort bench.now tech.now pl.now → ⊥) → IsFailure result }
     ensures nothing { IsFailure result → finding.new ≡ record { kind = 0; number = 0; place = 0 } }
     ensures statuses { ((result ≡ 0) ⊎ (result ≡ 7)) ⊎ IsFailure result }
 {
@@ -62,6 +63,7 @@ fn check_texts(
     pl: &[u8],
     report: &[u8],
 ) -> Result<Judged, Failure>
+    ensures short { IfOk result (λ _. AreAllShort bench.now tech.now pl.now) }
     ensures judged { IfOk result (λ judged. (problem : Problem)
         × TellAll bench.now tech.now pl.now problem × IsJudged problem report.now judged) }
     ensures shown { (problem : Problem) → AreAllShort bench.now tech.now pl.now

@@ -1,7 +1,7 @@
 //! What the text of a report comes to.
 
 ghost use Rattle.std.specs.Prelude.{◌≡◌, ◌⊎◌};
-ghost use Rattle.cts_c.specs.Findings.{judged_status, fault_number, fault_line, reason_number, reason_place, finding_of};
+ghost use Rattle.cts_c.specs.Findings.{judged_status, fault_numbers, reason_numbers, finding_of};
 
 use crate::finding::Finding;
 use cert_check::Reason;
@@ -65,8 +65,7 @@ impl Judged {
 
 // The number of a fault, and its line.
 fn fault_numbers(fault: ReportFault) -> (u32, u32)
-    ensures number { result.0 ≡ fault_number fault }
-    ensures line { result.1 ≡ fault_line fault }
+    ensures { result ≡ fault_numbers fault }
 {
     match fault {
         ReportFault::BadLine(line) => (1, line),
@@ -81,8 +80,7 @@ fn fault_numbers(fault: ReportFault) -> (u32, u32)
 
 // The number of a reason, and its place.
 fn reason_numbers(reason: Reason) -> (u32, u32)
-    ensures number { result.0 ≡ reason_number reason }
-    ensures place { result.1 ≡ reason_place reason }
+    ensures { result ≡ reason_numbers reason }
 {
     match reason {
         Reason::BelowFloor => (1, 0),

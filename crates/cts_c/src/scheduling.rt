@@ -1,7 +1,7 @@
 //! `cts_schedule`: the least schedule of a circuit at its least period.
 
 ghost use Rattle.std.specs.Prelude.{◌≡◌, ◌≢◌, ℕ, List, IfOk, IfErr};
-ghost use Rattle.cts_c.specs.Vocabulary.{Circuit, Tech, IsLoop, JoinsMoreThan, TellBoth, IsHanded, IsTooLarge, IsNone, AreBothShort, RefusesSchedule, FailsFor, IsScheduleAnswer, IsScheduleText, IsEnding, IsFailure, IsStatus, ending_status};
+ghost use Rattle.cts_c.specs.Vocabulary.{Circuit, Tech, IsLoop, JoinsMoreThan, TellBoth, IsHanded, IsTooLarge, IsNone, AreBothShort, RefusesSchedule, FailsFor, IsAnswered, IsScheduleAnswer, IsScheduleText, IsEnding, IsFailure, IsStatus, ending_status};
 
 use crate::answer::hand_over;
 use crate::failure::Failure;
@@ -23,12 +23,12 @@ pub extern "C" fn cts_schedule(
 ) -> u32
     // 0 and 1: the text of the least schedule, or of a cycle that forbids every period.
     ensures done { IsEnding result → (text : List ℕ)
-        × IsScheduleText bench.now tech.now result text
+        × IsScheduleAnswer bench.now tech.now result text
         × IsHanded text out.old out.new size.new }
 
     // 5: the buffer is too small for the text, whose size is told.
     ensures small { result ≡ 5 → (text : List ℕ) × ((status : ℕ)
-        × IsScheduleText bench.now tech.now status text
+        × IsScheduleAnswer bench.now tech.now status text
         × IsTooLarge text out.old out.new size.new) }
 
     // 3: exactly where a text is too long or has a fault, or paths join too many pairs of
@@ -37,6 +37,7 @@ pub extern "C" fn cts_schedule(
     ensures accepted { (circuit : Circuit) (delays : Tech) → AreBothShort bench.now tech.now
         → TellBoth bench.now tech.now circuit delays → (JoinsMoreThan circuit 1048576 → ⊥)
         → result ≢ 3 }
+    ensures long { (AreBothShort bench.now tech.now → ⊥) → IsFailure result }
     ensures none { IsFailure result → IsNone out.old out.new size.new }
     ensures statuses { IsStatus result }
 {
@@ -51,7 +52,8 @@ pub extern "C" fn cts_schedule(
 
 // What is answered for two texts.
 fn answer_for(alloc: Global, bench: &[u8], tech: &[u8]) -> Result<Answer, Failure>
-    ensures text { IfOk result (λ answer. IsScheduleText bench.now tech.now
+    ensures short { IfOk result (λ _. AreBothShort bench.now tech.now) }
+    ensures text { IfOk result (λ answer. IsScheduleAnswer bench.now tech.now
         (ending_status answer.ending) answer.text.items) }
     ensures cause { IfErr result (FailsFor (RefusesSchedule bench.now tech.now)) }
     ensures accepted { (circuit : Circuit) (delays : Tech) → AreBothShort bench.now tech.now
@@ -65,7 +67,9 @@ fn answer_for(alloc: Global, bench: &[u8], tech: &[u8]) -> Result<Answer, Failur
 // What is answered for a circuit and its delays.
 fn circuit_answer(alloc: Global, circuit: &Circuit, tech: &Tech) -> Result<Answer, Failure>
     requires { (loop : List ℕ) → IsLoop circuit.now.signals loop → ⊥ }
-    ensures text { IfOk result (λ answer. IsScheduleAnswer circuit.now tech.now
+    ensures answered { IfOk result
+        (λ answer. IsAnswered circuit.now tech.now (ending_status answer.ending)) }
+    ensures text { IfOk result (λ answer. IsScheduleText circuit.now tech.now
         (ending_status answer.ending) answer.text.items) }
     ensures cause { IfErr result (FailsFor (JoinsMoreThan circuit.now 1048576)) }
 {

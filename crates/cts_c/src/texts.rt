@@ -21,6 +21,7 @@ pub fn is_short(text: &[u8]) -> bool
 
 /// The circuit that a netlist and a delay table tell, with its delays.
 pub fn circuit_of(alloc: Global, bench: &[u8], tech: &[u8]) -> Result<Denoted, Failure>
+    ensures short { IfOk result (λ _. AreBothShort bench.now tech.now) }
     ensures ok { IfOk result (λ denoted. TellBoth bench.now tech.now denoted.circuit denoted.tech) }
     ensures acyclic { IfOk result (λ denoted.
         (loop : List ℕ) → IsLoop denoted.circuit.signals loop → ⊥) }

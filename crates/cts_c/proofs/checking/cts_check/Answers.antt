@@ -19,6 +19,9 @@ returns-in-Ok-clause-accepted c problem short tell three =
 pub returns-in-Ok-clause-nothing : goal.returns-in-Ok-clause-nothing
 returns-in-Ok-clause-nothing c failure = absurd (is_judged _ c.status.ensures.kind failure)
 
+pub returns-in-Ok-clause-long : goal.returns-in-Ok-clause-long
+returns-in-Ok-clause-long c long = absurd (long c.in-Ok.ensures.short)
+
 pub returns-in-Ok-clause-statuses : goal.returns-in-Ok-clause-statuses
 returns-in-Ok-clause-statuses c = inl c.status.ensures.kind
 

@@ -1,4 +1,5 @@
 use Rattle.cts_c.proofs.Vocabulary.{inr, subst, IfErr-weaker, IfOk-weaker, err_from_is_err_and, JoinsMoreThan, one_both}
+use Rattle.cts_c.proofs.ResultLemmas.{both_ok}
 use Rattle.cts_c.proofs.RefusalLemmas.{fails_alone, fails_for}
 use Rattle.cts_c.proofs.scheduling.answer_for.Goals as goal
 
@@ -10,12 +11,17 @@ returns-in_err-denoted-clause-accepted c circuit delays short tell few =
 pub returns-clause-text : goal.returns-clause-text
 returns-clause-text c =
     let denoted = c.in_ok-denoted.denoted in
-    IfOk-weaker c.circuit_answer.result _ _ (λ answer is. record {
+    both_ok c.circuit_answer.result _ _ _ (λ answer answered is. record {
       circuit = denoted.circuit;
       delays = denoted.tech;
       tell = c.in_ok-denoted.ensures.ok;
+      answered = answered;
       is = is;
-    }) c.circuit_answer.ensures.text
+    }) c.circuit_answer.ensures.answered c.circuit_answer.ensures.text
+
+pub returns-clause-short : goal.returns-clause-short
+returns-clause-short c = IfOk-weaker c.circuit_answer.result _ _
+    (λ answer is. c.in_ok-denoted.ensures.short) c.circuit_answer.ensures.text
 
 pub returns-clause-cause : goal.returns-clause-cause
 returns-clause-cause c =

@@ -1,5 +1,6 @@
 use Rattle.cts_c.proofs.Vocabulary.{err_from_is_err_and}
 use Rattle.cts_c.proofs.RefusalLemmas.{many_pairs}
+use Rattle.cts_c.proofs.StatusLemmas.{never_scheduled}
 use Rattle.cts_c.proofs.scheduling.circuit_answer.Goals as goal
 
 pub returns-in_err-outcome-clause-cause : goal.returns-in_err-outcome-clause-cause
@@ -7,13 +8,18 @@ returns-in_err-outcome-clause-cause c =
     let p = err_from_is_err_and c.from_residual.result c.from_residual.ensures.1 in
     rw (p.1, p.2) (many_pairs c.args.circuit.now _ c.in_err-outcome.ensures.many)
 
+pub returns-clause-answered : goal.returns-clause-answered
+returns-clause-answered c = record {
+  few = c.in_ok-outcome.ensures.few;
+  never = never_scheduled _ c.in_ok-outcome.outcome c.in_ok-answer.ensures.ending
+      c.in_ok-outcome.ensures.never;
+}
+
 pub returns-clause-text : goal.returns-clause-text
 returns-clause-text c = record {
-  few = c.in_ok-outcome.ensures.few;
   outcome = c.in_ok-outcome.outcome;
-  made = c.in_ok-outcome.ensures.ok;
+  least = c.in_ok-outcome.ensures.ok;
   lowest = c.in_ok-outcome.ensures.lowest;
-  never = c.in_ok-outcome.ensures.never;
   status_is = c.in_ok-answer.ensures.ending;
   spelled = c.in_ok-answer.ensures.text;
 }

@@ -1,5 +1,6 @@
 use Rattle.cts_c.proofs.Vocabulary.{inr, subst, IfErr-weaker, IfOk-weaker, err_from_is_err_and, JoinsMoreThan, one_problem}
 use Rattle.cts_model.specs.declared.problem.Problem.{Problem}
+use Rattle.cts_c.proofs.ResultLemmas.{both_ok}
 use Rattle.cts_c.proofs.RefusalLemmas.{fails_alone, fails_for}
 use Rattle.cts_c.proofs.synthesis.answer_for.Goals as goal
 
@@ -9,11 +10,16 @@ returns-in_err-problem-clause-accepted c problem short tell few =
     rw (p.1, p.2) (c.in_err-problem.ensures.accepted problem short tell)
 
 pub returns-clause-text : goal.returns-clause-text
-returns-clause-text c = IfOk-weaker c.problem_answer.result _ _ (λ answer is. record {
+returns-clause-text c = both_ok c.problem_answer.result _ _ _ (λ answer answered is. record {
   problem = c.in_ok-problem.problem;
   tell = c.in_ok-problem.ensures.ok;
+  answered = answered;
   is = is;
-}) c.problem_answer.ensures.text
+}) c.problem_answer.ensures.answered c.problem_answer.ensures.text
+
+pub returns-clause-short : goal.returns-clause-short
+returns-clause-short c = IfOk-weaker c.problem_answer.result _ _
+    (λ answer is. c.in_ok-problem.ensures.short) c.problem_answer.ensures.text
 
 pub returns-clause-cause : goal.returns-clause-cause
 returns-clause-cause c = IfErr-weaker c.problem_answer.result _ _ (λ failure. fails_for failure _
