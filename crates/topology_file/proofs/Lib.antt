@@ -1,3 +1,4 @@
+mod AcceptedTexts
 mod OpenNodes
 mod TakenLines
 mod WordNumbers

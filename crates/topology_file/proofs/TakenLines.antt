@@ -1,7 +1,7 @@
 -- What is taken in from one more line, or what is wrong with it.
 use Rattle.std.proofs.Common.{◌≡◌, ◌<◌, ◌+◌, ℕ, Bool, true, false, not, nat_le, if◌then◌else◌, Some, None, List, [], ◌∷◌, ◌++◌, length, refl, sym, ap, subst, ◌∙◌, arith}
 use Rattle.std.proofs.lemmas.Bool.Decides.{nat_tests}
-use Rattle.std.proofs.lemmas.List.{map_push}
+use Rattle.std.proofs.lemmas.List.{length-map, map_push}
 use Rattle.std.proofs.lemmas.Option.{same_Some}
 use Rattle.cts_model.specs.declared.tree.Merge.{Merge}
 use Rattle.cts_model.specs.Vocabulary.{IsMerge, entries_in, has_words, words_in, AreMarked}
@@ -13,7 +13,8 @@ use Rattle.topology_file.specs.declared.joining.Joining.{Joining}
 use Rattle.topology_file.specs.Entries.{is_entry, joins_open, merge_of, merges_of}
 use Rattle.topology_file.specs.Kept.{kept_merge}
 use Rattle.topology_file.specs.Taken.{HasTaken, IsOfOpen, TakesMerge}
-use Rattle.topology_file.specs.TopologyTexts.{topology_entry_fault, topology_line_fault}
+use Rattle.topology_file.specs.TopologyTexts.{AreEntries, topology_entry_fault, topology_line_fault}
+use Rattle.topology_file.proofs.AcceptedTexts.{entries_push}
 use Rattle.topology_file.proofs.OpenNodes.{fails_unless_merge, test_from_merge}
 
 module _ (sinks : ℕ) (joining : Joining) (earlier : List (List ℕ)) (line : List ℕ) (number : ℕ)
@@ -150,6 +151,11 @@ module _ (sinks : ℕ) (joining : Joining) (earlier : List (List ℕ)) (line : L
             };
           }
 
+      -- it makes the node that is due after the entries before it
+      due_there : joining.sinks + length merges ≡ sinks + length (entries_in earlier)
+      due_there = (λ i. has.sinks_are i + length (has.merges_are i))
+          ∙ ap (λ count. sinks + count) (length-map (entries_in earlier) merge_of)
+
       -- its merge is taken in
       pub merge_taken : (new : Joining) → TakesMerge joining new kept
           → (topology_line_fault sinks earlier line ≡ None) × HasTaken sinks new (earlier ++ line
@@ -164,6 +170,8 @@ module _ (sinks : ℕ) (joining : Joining) (earlier : List (List ℕ)) (line : L
           each = subst (λ n. EachMerge n new.merges) (sym takes.sinks)
               (subst (EachMerge joining.sinks) (sym takes.merges)
               (EachMerge-push joining.sinks merges kept has.each joins));
+          form = subst (AreEntries sinks) (sym next) (entries_push sinks (entries_in earlier) entry
+              has.form (subst (λ due. is_entry due entry ≡ true) due_there given.form));
           marked = subst (λ merges. AreMarked merges new.joined.items) (sym takes.merges)
               (subst (AreMarked (merges ++ kept ∷ [])) (sym takes.joined)
               (marks_more merges joining.joined.items has.marked kept));

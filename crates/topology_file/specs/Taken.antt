@@ -4,15 +4,17 @@ use Rattle.cts_model.specs.declared.tree.Merge.{Merge}
 use Rattle.cts_model.specs.Vocabulary.{AreMarked, IsMerge, entries_in}
 use Rattle.topology_file.specs.declared.joining.Joining.{Joining}
 use Rattle.topology_file.specs.Entries.{merges_of}
+use Rattle.topology_file.specs.TopologyTexts.{AreEntries}
 
--- the merges are those of the lines, each of two open nodes, and the nodes that they join are
--- marked
+-- the merges are those of the lines, each of the node that is due and two open ones, and the nodes
+-- that they join are marked
 pub record HasTaken (sinks : ℕ) (joining : Joining) (lines : List (List ℕ)) : Type 0 where
   pub sinks_are : joining.sinks ≡ sinks
   pub merges_are : joining.merges ≡ merges_of (entries_in lines)
   pub each : (place : ℕ) (merge : Merge) → slice_get joining.merges place ≡ Some merge
       → IsMerge joining.sinks (take place joining.merges) merge
   pub marked : AreMarked joining.merges joining.joined.items
+  pub form : AreEntries sinks (entries_in lines)
 
 -- the merge joins two nodes that are made and aren't marked, the lower first
 pub record IsOfOpen (joining : Joining) (merge : Merge) : Type 0 where

@@ -1,13 +1,25 @@
 -- Topology files: the topology that a text tells, or the first fault that it has.
-use Rattle.std.specs.Prelude.{◌≡◌, ℕ, ◌+◌, ◌==◌, not, nat_le, List, length, Option, Some, None, Result, Ok, Err, if◌then◌else◌}
+use Rattle.std.specs.Prelude.{◌≡◌, ℕ, suc, ◌+◌, ◌==◌, true, not, nat_le, List, [], ◌∷◌, length, Option, Some, None, Result, Ok, Err, if◌then◌else◌}
 use Rattle.cts_base.specs.LineFormats.{first_fault, unless_faulty}
 use Rattle.cts_base.specs.Lines.{lines_of}
 use Rattle.cts_model.specs.declared.tree.Merge.{Merge}
 use Rattle.cts_model.specs.declared.tree.Topology.{Topology}
-use Rattle.cts_model.specs.Vocabulary.{entries_in, entries_of, has_words, words_in}
+use Rattle.cts_model.specs.Vocabulary.{IsTopology, entries_in, entries_of, has_words, words_in}
 use Rattle.topology_file.specs.declared.fault.TopologyFault.{TopologyFault}
 use Rattle.topology_file.specs.declared.fault.TopologyFault.TheVariants.{BadLine, NotOpen, Missing, Extra}
 use Rattle.topology_file.specs.Entries.{is_entry, joins_open, merge_of, merges_of}
+
+-- each entry makes the node that is due, which the first of them does with this one
+abbrev pub AreEntries : (due : ℕ) → List (List (List ℕ)) → Type 0
+AreEntries due [] = Unit {0}
+AreEntries due (entry ∷ more) = (is_entry due entry ≡ true) × AreEntries (suc due) more
+
+-- the lines that aren't blank are the merges of this topology of so many sinks, in order, each with
+-- its two nodes in either order
+pub record IsTopologyText (sinks : ℕ) (text : List ℕ) (topology : Topology) : Type 0 where
+  pub form : AreEntries sinks (entries_of text)
+  pub merges : topology.merges ≡ merges_of (entries_of text)
+  pub joins_all : IsTopology sinks topology.merges
 
 -- what is wrong with an entry in a line of this number, after these merges: that it is too many
 -- comes first, then its form and the node that it makes, and then the nodes that it joins

@@ -1,5 +1,5 @@
-ghost use Rattle.std.specs.Prelude.{◌≤◌, length, IfOk};
-ghost use Rattle.topology_file.specs.Vocabulary.{IsToldBy, IsTopology, topology_in, TopologyFault};
+ghost use Rattle.std.specs.Prelude.{◌≡◌, ◌≤◌, ◌⊎◌, length, Ok, Err, IfOk};
+ghost use Rattle.topology_file.specs.Vocabulary.{IsToldBy, IsTopologyText, topology_in, Topology, TopologyFault};
 
 use crate::TopologyFault;
 use crate::joining::Joining;
@@ -20,11 +20,14 @@ pub fn read_topology(
     circuit: &Circuit,
 ) -> Result<Topology, TopologyFault>
     requires { length bytes.now ≤ 16777216 }
-    // The topology that the bytes tell, or their first fault, but for want of memory.
+    // Ok comes exactly where the lines are those of a topology, which is given; memory alone is free.
+    ensures ok { IfOk result (IsTopologyText (length circuit.now.registers) bytes.now) }
+    ensures accepted { (topology : Topology)
+        → IsTopologyText (length circuit.now.registers) bytes.now topology
+        → (result ≡ Ok topology) ⊎ (result ≡ Err TopologyFault.NoMemory) }
+    // Else their first fault comes, but for want of memory.
     ensures told { IsToldBy TopologyFault.NoMemory
         (topology_in bytes.now (length circuit.now.registers)) result }
-    ensures topology { IfOk result
-        (λ topology. IsTopology (length circuit.now.registers) topology.merges) }
 {
     let mut joining = Joining::new(alloc, circuit.registers.len())?;
     let next = read_lines(&mut joining, bytes)?;
