@@ -6,7 +6,7 @@
  *
  *     cc -I include program.c c/cts_heap.c crates/cts_c/out/libcts_c.a -o program
  *
- * What each call does is proved, for every caller that keeps to what is owed:
+ * A caller owes this:
  *
  * - A text or a buffer is a pointer to its bytes and their number. A text needs no zero byte at
  *   the end, and may be any bytes. A pointer is never null, also where the number is 0.
@@ -15,10 +15,17 @@
  * - No call is made from a signal handler, or in the forked child of a process with threads.
  * - c/cts_heap.c says what an allocator has to do.
  *
- * The caller owns all memory that it hands in, before and after. A call keeps no pointer, and frees
- * all that it has allocated before it returns. Calls share nothing, so threads may make them side
- * by side. The heap and the stack are the only other memory that a call takes. It reads and writes
- * no file, ends no process and returns.
+ * To such a caller it is proved of each call which status it has for which texts, that the text of
+ * its answer, or its finding, is one for what the texts tell, where the text stands, and that all
+ * else of the buffer stays. crates/cts_c/README.md says it clause by clause.
+ *
+ * Tested, and said by no clause: the bytes are those that the program prints, and the same texts
+ * give the same bytes. A call keeps no pointer, and frees all that it has allocated before it
+ * returns. Calls share nothing, so threads may make them side by side. A call reads and writes no
+ * file and ends no process.
+ *
+ * The caller owns all memory that it hands in, before and after. The heap and the stack are the
+ * only other memory that a call takes.
  *
  * The formats of the texts stand in docs/FORMATS.md, those of the answers in docs/COMMANDS.md, and
  * that of reports in docs/REPORT.md. Times are in the ticks of the delay table, lengths in the
@@ -52,7 +59,7 @@ enum cts_status {
 uint32_t cts_version(void);
 
 /* The clock tree of a netlist, a delay table and a placement: the text that
- * `cts synth --bench .. --tech .. --pl ..` prints, byte for byte.
+ * `cts synth --bench .. --tech .. --pl ..` prints.
  *
  * With CTS_DONE the text is a report, and with CTS_NEVER it says what forbids every period. Its
  * *size bytes stand at the beginning of `out`, and the bytes after them stay.
@@ -92,9 +99,9 @@ struct cts_finding {
 /* Judges a report, whoever made it, of the problem that the three texts tell, as
  * `cts check --bench .. --tech .. --pl .. --report ..` does.
  *
- * With CTS_DONE the report shows what it says: no smaller period will do, the arrivals meet it over
- * every path, the tree has exactly these skews, and no tree of the same merges with these skews has
- * less wire.
+ * With CTS_DONE the report shows what it says: no smaller period from the table's floor on will do,
+ * the arrivals meet it over every path, the tree has exactly these skews, and no tree of the same
+ * merges with these skews has less wire.
  * With CTS_NOT_SHOWN *finding tells what stands against it, also where the report is too long. With
  * CTS_DONE, CTS_REFUSED and CTS_NO_MEMORY it is all 0. No other status comes. */
 uint32_t cts_check(const char *bench, size_t bench_size, const char *tech, size_t tech_size,
