@@ -5,17 +5,16 @@ The text with the arrivals is one of margin or corners, or any that arrivals_to_
 table has the wire's delay and the nodes of the source and the host. In the netlist the earliest
 register launches to each later one, through gates whose delay is the period and how much later that
 one is. The period is the floor of the new table, so at it no register can be reached earlier. Where
-arrivals are fractions, a tick of the new files is so small a part of one that all are whole.
+arrivals are fractions, a tick of the new files is so small a part of one that all are whole; the
+script then says so on the error output. How long a tick is stands at the head of both files.
 """
-import argparse
 import json
 import sys
-import tomllib
 from fractions import Fraction
 from math import lcm
 
-from arrivals_to_sdc import HOST, read
-from bench_to_verilog import lines_of
+from tables import Table
+from texts import HOST, Parser, Tick, arrivals_of, common_tick, fail, run, tick, write_files
 
 # What each input behind the first adds, and what a gate of one input takes, each at the least and
 # at the greatest.
@@ -57,12 +56,13 @@ def netlist(period, delays):
 
 def table(given, parts, period):
     """The lines of a delay table whose tick is that part of the given one's."""
-    delay = Fraction(given["wire"]["delay"]) * parts
-    if delay.numerator > LONG or period > 1000 * LONG:
-        sys.exit(f"with ticks of 1/{parts} the wire's delay or the period is too large for a table")
+    delay = given.wire_delay() * parts
+    if delay.numerator > LONG or delay.denominator > LONG or period > 1000 * LONG:
+        fail(given.path, f"with ticks of 1/{parts} the wire's delay or the period is too large")
     yield f'[wire]\ndelay = "{delay.numerator}/{delay.denominator}"'
-    for node in {"source", "host"} & given.keys():
-        yield f"[{node}]\nplace = {json.dumps(given[node]['place'])}"
+    for node in ("source", "host"):
+        if node == "source" or given.has(node):
+            yield f"[{node}]\nplace = {json.dumps(given.at(node, 'place'))}"
     yield "[register]\nsetup = 0\nhold = 0\nleast = 0\ngreatest = 0"
     yield f"[period]\nfloor = {period}"
     for kind in [*DIGITS, LONGEST, "BUFF"]:
@@ -71,24 +71,26 @@ def table(given, parts, period):
         yield f"least_per_input = {digit}\ngreatest_per_input = {digit}"
 
 
-def write(path, lines):
-    with open(path, "w", encoding="utf-8", errors="surrogateescape") as file:
-        file.writelines(f"{line}\n" for line in lines)
-
-
 def main():
-    parser = argparse.ArgumentParser(description=__doc__)
+    parser = Parser(description=__doc__)
     parser.add_argument("text", metavar="TEXT")
     parser.add_argument("table", metavar="TABLE.toml")
     parser.add_argument("out", metavar="OUT")
+    parser.add_argument("--tick", type=tick, help="how long a tick of the table is, else 1ps")
     words = parser.parse_args()
-    period, arrivals = read(words.text)
-    given = tomllib.loads("".join(lines_of(words.table)))
+    period, arrivals = arrivals_of(words.text)
+    given, length = Table(words.table), common_tick([words.table, words.text], words.tick)
     parts = lcm(period.denominator, *(arrival.denominator for _, arrival in arrivals))
     delays = {name: int(arrival * parts) for name, arrival in arrivals}
-    write(f"{words.out}.toml", table(given, parts, int(period * parts)))
-    write(f"{words.out}.bench", netlist(int(period * parts), delays))
+    shorter = Tick(Fraction(length.length, parts), length.unit)
+    texts = {"toml": table(given, parts, int(period * parts)),
+             "bench": netlist(int(period * parts), delays)}
+    write_files({f"{words.out}.{end}": "".join(f"{line}\n" for line in [f"# tick {shorter}", *lines])
+                 for end, lines in texts.items()})
+    if parts > 1:
+        print(f"{words.out}.toml: a tick is {shorter} here, and {length} in {words.table}",
+              file=sys.stderr)
 
 
 if __name__ == "__main__":
-    main()
+    run(main)

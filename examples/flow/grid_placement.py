@@ -4,18 +4,20 @@
 They stand on a square grid, row by row in the order of their lines, with the source of the clock,
 the node CLK, above the middle.
 """
-import argparse
 from itertools import count
 
 from bench_to_verilog import statements
+from texts import Parser, fail, run
 
 
 def main():
-    parser = argparse.ArgumentParser(description=__doc__)
+    parser = Parser(description=__doc__)
     parser.add_argument("netlist", metavar="FILE.bench")
     parser.add_argument("--pitch", type=int, default=20, help="the distance of two, else 20")
     words = parser.parse_args()
     names = [name for kind, name, _ in statements(words.netlist) if kind == "DFF"]
+    if not names:
+        fail(words.netlist, "there is no register to place")
     side = next(side for side in count() if side * side >= len(names))
     print("UCLA pl 1.0")
     for place, name in enumerate(names):
@@ -24,4 +26,4 @@ def main():
 
 
 if __name__ == "__main__":
-    main()
+    run(main)

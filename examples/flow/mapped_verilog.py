@@ -5,11 +5,10 @@ The netlist is flat: one module of instances whose pins are named. A register is
 clock pin is connected, and its net the one that its output drives. A net has a line for each of its
 names, as assignments give it more than one; a name has neither Verilog's mark in front nor blanks.
 """
-import argparse
 import re
-import sys
 
-from bench_to_verilog import lines_of
+from bench_to_verilog import plain
+from texts import Parser, fail, lines_of, run
 
 TOKEN = re.compile(r"\\\S+|\d*'[sS]?[bodhBODH][\w?]+|[\w$]+|[^\s\w]")
 COMMENT = re.compile(r"/\*.*?\*/|//[^\n]*|\(\*.*?\*\)", re.DOTALL)
@@ -21,12 +20,9 @@ class Netlist:
 
     def __init__(self, path):
         self.path, self.instances, self.ranges, self.above = path, [], {}, {}
-        text = COMMENT.sub(" ", "".join(lines_of(path)))
-        if len(re.findall(r"\bmodule\b", text)) != 1:
-            self.fail("not one module: flatten the netlist first")
-        self.assigned, words = [], []
+        self.name, self.assigned, self.inputs, words = "", [], set(), []
         try:
-            for statement in re.sub(r"\bendmodule\b", "", text).split(";"):
+            for statement in self.statements():
                 if words := TOKEN.findall(statement):
                     self.take(words)
             for words in self.assigned:
@@ -34,15 +30,29 @@ class Netlist:
                 self.join(words[:place], words[place + 1:])
             for place, (cell, name, words) in enumerate(self.instances):
                 self.instances[place] = cell, name, self.pins(words)
+            inputs = [bit for name in self.inputs for bit in self.bits([name])]
         except (ValueError, IndexError):
-            self.fail(f"not a statement of a mapped netlist: {' '.join(words[:9])}")
+            fail(path, f"not a statement of a mapped netlist: {' '.join(words[:9])}")
+        self.inputs = set(map(self.net, inputs))
 
-    def fail(self, message):
-        sys.exit(f"{self.path}: {message}")
+    def statements(self):
+        """The statements of the one module that the file has to hold to its end."""
+        text = COMMENT.sub(" ", "".join(lines_of(self.path)))
+        # An escaped name ends at a blank, and no keyword stands in one.
+        modules = re.findall(r"(?<![\\\w$])(module|endmodule)(?![\w$])", text)
+        if modules.count("module") > 1:
+            fail(self.path, "more than one module: flatten the netlist first")
+        if "module" not in modules:
+            fail(self.path, "no module")
+        *statements, rest = text.split(";")
+        if rest.split() != ["endmodule"]:
+            fail(self.path, "the file ends in the middle of the module")
+        return statements
 
     def take(self, words):
         """Keeps what a statement says."""
         if words[0] == "module":
+            self.name = plain(words[1])
             # Ports may be declared within the brackets.
             declared = []
             for port in filter(None, split(words[words.index("(") + 1:-1] if "(" in words else [])):
@@ -59,13 +69,17 @@ class Netlist:
             raise ValueError
 
     def declare(self, words):
-        """Keeps the range of some names, and what is assigned to them."""
+        """Keeps the range of some names, whether they are inputs, and what is assigned to them."""
+        is_input = words[0] == "input"
         words = [word for word in words if word not in DECLARATIONS]
         bounds = None
         if words[0] == "[":
             bounds, words = (int(words[1]), int(words[3])), words[5:]
         for name in split(words):
-            self.ranges[plain(name[0])] = bounds
+            if is_input:
+                self.inputs.add(name[0])
+            # A wire of a port's name doesn't take the port's range away.
+            self.ranges[plain(name[0])] = bounds or self.ranges.get(plain(name[0]))
             if "=" in name:
                 self.assigned.append(name)
 
@@ -104,13 +118,27 @@ class Netlist:
         drivers = {self.net(pins[output][0]): name for _, name, pins in self.instances
                    if pin in pins and output in pins}
         if not drivers:
-            self.fail(f"no instance has a clock pin {pin} and an output {output}")
+            fail(self.path, f"no instance has a clock pin {pin} and an output {output}")
+        self.check_clock(pin, set(drivers.values()))
         names = dict.fromkeys([*drivers, *self.above])
         return {bit: drivers[self.net(bit)] for bit in names if self.net(bit) in drivers}
 
-
-def plain(name):
-    return name.removeprefix("\\")
+    def check_clock(self, pin, registers):
+        """Refuses registers of several clocks, and a clock that is no input."""
+        clocks = {}
+        for cell, name, pins in self.instances:
+            if name in registers:
+                clocks.setdefault(self.net(pins[pin][0]), f"{name} ({cell})")
+        for clock, register in clocks.items():
+            if clock not in self.inputs:
+                makers = [f"{name} ({cell})" for cell, name, pins in self.instances
+                          for at, bits in pins.items()
+                          if at != pin and clock in map(self.net, bits)]
+                fail(self.path, f"the clock {clock} of the register {register} is no input"
+                                + (f", but is made by {makers[0]}" if makers else ""))
+        if len(clocks) > 1:
+            kinds = " and ".join(f"{clock} at {name}" for clock, name in list(clocks.items())[:2])
+            fail(self.path, f"the registers have several clocks: {kinds}")
 
 
 def split(words):
@@ -125,21 +153,20 @@ def split(words):
     return parts
 
 
-def take_words(parser):
-    """The words of a call with those that say what a register is, and the netlist."""
+def add_pins(parser):
+    """The words of a call that say what a register is."""
     parser.add_argument("--pin", default="CK", help="the clock pin of a register, else CK")
     parser.add_argument("--output", default="Q", help="the output of a register, else Q")
-    words = parser.parse_args()
-    return words, Netlist(words.netlist)
 
 
 def main():
-    parser = argparse.ArgumentParser(description=__doc__)
+    parser = Parser(description=__doc__)
     parser.add_argument("netlist", metavar="NETLIST.v")
-    words, netlist = take_words(parser)
-    for net, instance in netlist.registers(words.pin, words.output).items():
+    add_pins(parser)
+    words = parser.parse_args()
+    for net, instance in Netlist(words.netlist).registers(words.pin, words.output).items():
         print(instance, net)
 
 
 if __name__ == "__main__":
-    main()
+    run(main)

@@ -5,25 +5,28 @@ A register has a line for each name of the net that its output drives, as mapped
 them: the netlist of cts uses one of these. What is no instance of the netlist, as the pad that the
 clock comes from, keeps its line, and gates lose theirs.
 """
-import argparse
-
-from bench_to_verilog import lines_of
-from mapped_verilog import plain, take_words
+from bench_to_verilog import plain
+from mapped_verilog import Netlist, add_pins
+from texts import Parser, fail, lines_of, run
 
 
 def main():
-    parser = argparse.ArgumentParser(description=__doc__)
+    parser = Parser(description=__doc__)
     parser.add_argument("netlist", metavar="NETLIST.v")
     parser.add_argument("placement", metavar="PLACED.pl")
-    words, netlist = take_words(parser)
+    add_pins(parser)
+    words = parser.parse_args()
+    netlist = Netlist(words.netlist)
     nets = {name: [] for _, name, _ in netlist.instances}
     for net, instance in netlist.registers(words.pin, words.output).items():
         nets[instance].append(net)
     for line in filter(str.strip, lines_of(words.placement)):
         node, *place = line.split(maxsplit=1)
+        if not place:
+            fail(words.placement, f"not a line of a placement: {line.strip()[:60]}")
         for name in nets.get(plain(node), [node]):
-            print(name, *place, end="")
+            print(name, place[0].rstrip("\n"))
 
 
 if __name__ == "__main__":
-    main()
+    run(main)

@@ -4,22 +4,23 @@
 Wires are drawn as the report has them, in orange where one is longer than the way between its ends,
 so that it delays the clock. What lies outside of all registers, merges and the source is drawn to a
 smaller scale. Arrows are the critical cycle: a red one a path whose setup limits the period, from
-where it is launched to where it is captured, a blue one a hold, from where it is captured. Below
-stands a bar for each arrival, in the order of the registers. Each mark has its name as a title.
+where it is launched to where it is captured, a blue one a hold, from where it is captured; each
+keeps to its left, so that two of one pair lie side by side. The registers of the cycle have their
+names beside them. A bar says how long some length units are. Below stands a bar for each arrival,
+in the order of the registers. Each mark has its name as a title.
 """
-import argparse
 from fractions import Fraction
-from itertools import islice
 from xml.sax.saxutils import escape, quoteattr
 
-from bench_to_verilog import lines_of
+from texts import Parser, fail, parts_of, run
 
-SIDE, MARGIN, BAND, BARS, LINE = 800, 20, 80, 140, 20
+SIDE, MARGIN, BAND, BARS, LINE, BEND = 800, 20, 80, 140, 20, 24
 STYLE = """<style>
   polyline { fill: none; stroke: black } .detour { stroke: darkorange; stroke-width: 2 }
   .cycle { fill: none; stroke-width: 2 } .setup { stroke: red; marker-end: url(#red) }
   .hold { stroke: blue; marker-end: url(#blue) } text { font: 14px sans-serif }
-  .register, .bar { fill: seagreen } .merge { fill: gray } .source { fill: purple }
+  .critical { font-weight: bold; paint-order: stroke; stroke: white; stroke-width: 3px }
+  .scale { fill: none; stroke: black } .register, .bar { fill: seagreen } .merge { fill: gray } .source { fill: purple }
 </style><rect width="100%" height="100%" fill="white"/>"""
 TIP = """<marker id="{0}" viewBox="0 0 8 8" refX="8" refY="4" markerWidth="6" markerHeight="6"
   orient="auto"><path d="M0,0 L8,4 L0,8 z" fill="{0}"/></marker>"""
@@ -33,24 +34,21 @@ class Report:
     """The parts of a report that are drawn."""
 
     def __init__(self, path):
-        lines, parts = map(str.split, lines_of(path)), {}
-        for words in lines:
-            if len(words) == 2 and words[0] in ("cycle", "registers", "merges", "nodes"):
-                # In version 2 each constraint of a cycle has a line with its path behind it.
-                paths = words[0] == "cycle" and "2" in parts.get("cts", [])
-                parts[words[0]] = list(islice(lines, int(words[1]) * (1 + paths)))
-            else:
-                parts.setdefault(words[0] if words else "", words)
-        if not {"cts", "registers", "merges", "nodes"} <= parts.keys():
-            raise SystemExit(f"{path}: not a report, as synth prints it")
+        kind = "a report, as synth prints it"
+        parts = parts_of(path, kind, "cts", "period", "registers", "merges", "nodes", "wire")
         self.cycle = [words for words in parts.get("cycle", []) if words[0] != "path"]
-        self.registers = [(words[0], Fraction(words[1])) for words in parts["registers"]]
         self.title = f"period {parts['period'][1]}, wire {parts['wire'][1]}"
         self.places, self.lengths, self.wires = [], [], []
-        for numbers in ([Fraction(word) for word in words[1:]] for words in parts["nodes"]):
-            self.places.append(numbers[:2])
-            self.lengths.append(numbers[2])
-            self.wires.append(list(zip(numbers[4::2], numbers[5::2])))
+        try:
+            self.registers = [(words[0], Fraction(words[1])) for words in parts["registers"]]
+            for numbers in ([Fraction(word) for word in words[1:]] for words in parts["nodes"]):
+                self.places.append(numbers[:2])
+                self.lengths.append(numbers[2])
+                self.wires.append(list(zip(numbers[4::2], numbers[5::2])))
+        except (ValueError, IndexError, ZeroDivisionError):
+            fail(path, f"not {kind}")
+        if len(self.wires) < len(self.registers) or not all(self.wires):
+            fail(path, f"not {kind}")
 
 
 class Drawing:
@@ -63,7 +61,7 @@ class Drawing:
         far = max(abs(end - edge) for pair in zip(self.box, ends) for edge, end in zip(*pair))
         self.scale = (SIDE - 2 * BAND) / (max(high - low for low, high in self.box) or 1)
         self.outside = min(self.scale, BAND / far) if far > 0 else 0
-        self.bottom = self.along(1, self.box[1][1]) + BAND + 3 * LINE
+        self.bottom = self.along(1, self.box[1][1]) + BAND + 4 * LINE
         self.bar = min(60, SIDE / len(report.registers))
         self.is_named = all(9 * len(name) <= self.bar for name, _ in report.registers)
 
@@ -81,8 +79,8 @@ def titled(shape, kind, title, **values):
     print(f"<{shape} class={quoteattr(kind)} {values}><title>{escape(title)}</title></{shape}>")
 
 
-def write(x, y, text):
-    print(f'<text x="{x}" y="{y}">{text}</text>')
+def write(x, y, text, words=""):
+    print(f'<text x="{x}" y="{y}"{words}>{text}</text>')
 
 
 def draw_tree(report, drawing):
@@ -106,13 +104,39 @@ def draw_tree(report, drawing):
     titled("polygon", "source", "source", points=f"{x},{y - 8} {x - 7},{y + 5} {x + 7},{y + 5}")
 
 
+def arrow(start, end):
+    """A way from one place to another that bends to its left, so that none lies on the way back."""
+    (x, y), (right, down) = start, (end[0] - start[0], end[1] - start[1])
+    length = (right * right + down * down) ** 0.5
+    if length == 0:
+        return f"M{x},{y} c-40,-40 -40,40 0,0"
+    bend = min(BEND, length / 4) / length
+    aside = x + right / 2 + 2 * bend * down, y + down / 2 - 2 * bend * right
+    return f"M{x},{y} Q{aside[0]:.2f},{aside[1]:.2f} {end[0]},{end[1]}"
+
+
 def draw_cycle(report, drawing):
     numbers = {name: number for number, (name, _) in enumerate(report.registers)}
+    named = {}
     for kind, *names, weight in report.cycle:
         ends = [drawing.at(*report.places[numbers[name]]) for name in names]
-        (x, y), end = ends if kind == "setup" else ends[::-1]
-        way = "L{},{}".format(*end) if end != (x, y) else "c-40,-40 -40,40 0,0"
-        titled("path", f"cycle {kind}", " ".join([kind, *names, weight]), d=f"M{x},{y} {way}")
+        named |= zip(names, ends)
+        way = arrow(*(ends if kind == "setup" else ends[::-1]))
+        titled("path", f"cycle {kind}", " ".join([kind, *names, weight]), d=way)
+    if not drawing.is_named:
+        for name, (x, y) in named.items():
+            write(x + 6, y - 8, escape(name), ' class="critical"')
+
+
+def draw_scale(drawing, bottom):
+    """A bar of a round number of length units, at most a quarter of the sheet long."""
+    most = SIDE / 4 / drawing.scale
+    ten = Fraction(10) ** (len(str(int(most))) - 1 if most >= 1 else -len(str(int(1 / most))))
+    length = max(step * ten for step in (1, 2, 5) if step * ten <= most)
+    left, right = MARGIN, round(MARGIN + float(length * drawing.scale), 2)
+    ends = f"M{left},{bottom - 5} v10 M{left},{bottom} H{right} M{right},{bottom - 5} v10"
+    titled("path", "scale", f"{length} length units", d=ends)
+    write(right + 8, bottom + 5, f"{length} length unit{'s' if length != 1 else ''}")
 
 
 def draw_arrivals(report, drawing, bottom):
@@ -129,16 +153,17 @@ def draw_arrivals(report, drawing, bottom):
 
 
 def main():
-    parser = argparse.ArgumentParser(description=__doc__)
+    parser = Parser(description=__doc__)
     parser.add_argument("report", metavar="REPORT.cts")
     report = Report(parser.parse_args().report)
     drawing = Drawing(report)
-    bottom = drawing.bottom + BARS + 3 * LINE
-    size = f'width="{SIDE + 2 * MARGIN}" height="{bottom + 2 * LINE}"'
+    bottom = drawing.bottom + BARS + 4 * LINE
+    size = f'viewBox="0 0 {SIDE + 2 * MARGIN} {bottom + 2 * LINE}"'
     print(f'<svg xmlns="http://www.w3.org/2000/svg" {size}>{STYLE}')
     print(TIP.format("red"), TIP.format("blue"))
     write(MARGIN, 24, report.title)
     write(MARGIN, 24 + LINE, LEGEND)
+    draw_scale(drawing, 24 + 2 * LINE)
     draw_tree(report, drawing)
     draw_cycle(report, drawing)
     draw_arrivals(report, drawing, bottom)
@@ -146,4 +171,4 @@ def main():
 
 
 if __name__ == "__main__":
-    main()
+    run(main)

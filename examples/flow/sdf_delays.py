@@ -6,12 +6,10 @@ bounds stand.
 """
 import argparse
 import re
-import sys
-from decimal import Decimal
+from decimal import Decimal, InvalidOperation
 from math import ceil, floor, inf
 
-from arrivals_to_sdc import UNITS, tick
-from bench_to_verilog import lines_of
+from texts import UNITS, Parser, fail, lines_of, run, tick
 
 TOKEN = re.compile(r'"[^"]*"|[()]|(?:\\.|[^\s()"])+')
 
@@ -26,6 +24,8 @@ def tree(path):
             stack[-2].append(stack.pop())
         else:
             stack[-1].append(token)
+    if len(stack) > 1:
+        fail(path, "the file ends within a bracket")
     return stack[0]
 
 
@@ -45,31 +45,67 @@ def edgeless(pin):
     return pin.replace("\\", "")
 
 
+def edge(pin):
+    """The edge of a pin, posedge or negedge, or nothing."""
+    while isinstance(pin, list):
+        if pin[0] in ("posedge", "negedge"):
+            return pin[0]
+        pin = pin[-1]
+    return ""
+
+
 class Delays:
     """Times in ticks, each with its least and greatest bound.
 
     Those of cells stand by instance and output and then by input, those of wires by instance and
-    pin, and setup and hold by instance and then by pin.
+    pin, and setup and hold by instance and then by pin. The edges are those of the clock by which
+    an instance has its checks.
     """
 
     def __init__(self, path, length):
+        self.path, self.arcs, self.wires, self.setup, self.hold = path, {}, {}, {}, {}
+        self.edges, self.instances = {}, {}
         file = tree(path)
         if not (scale := list(lists(file, "TIMESCALE"))):
-            sys.exit(f"{path}: not an SDF file with its TIMESCALE")
-        number, unit = tick("".join(scale[0][1:]))
-        self.ticks = number.scaleb(UNITS[unit] - UNITS[length[1]]) / length[0]
-        self.arcs, self.wires, self.setup, self.hold = {}, {}, {}, {}
-        for cell in lists(file, "CELL"):
-            name = "".join(next(lists(cell, "INSTANCE"))[1:]).replace("\\", "")
-            for _, start, end, *times in lists(cell, "IOPATH"):
-                self.widen(self.arcs.setdefault((name, end), {}), edgeless(start), times)
-            for _, _, end, *times in lists(cell, "INTERCONNECT"):
-                self.widen(self.wires, tuple(re.split(r"[/.](?=[^/.]*$)", edgeless(end))), times)
-            for word, checks in (("SETUP", self.setup), ("HOLD", self.hold)):
-                for _, pin, _, *times in lists(cell, word):
-                    self.widen(checks.setdefault(name, {}), edgeless(pin), times)
+            fail(path, "not an SDF file with its TIMESCALE")
+        try:
+            unit = tick("".join(scale[0][1:]))
+            self.ticks = Decimal(unit.length.numerator * length.length.denominator)
+            self.ticks /= Decimal(unit.length.denominator * length.length.numerator)
+            for cell in lists(file, "CELL"):
+                self.take(cell)
+        except (ValueError, TypeError, AttributeError, IndexError, StopIteration,
+                InvalidOperation, argparse.ArgumentTypeError):
+            fail(path, f"not delays as they are known: {self.last}")
         holds = (most for pins in self.hold.values() for _, most in pins.values())
         self.most_hold = max([0, *holds])
+
+    def take(self, cell):
+        """Takes the delays and the checks of a cell."""
+        kind, instance = (next(lists(cell, word))[1:] for word in ("CELLTYPE", "INSTANCE"))
+        name = "".join(instance).replace("\\", "")
+        if name:
+            self.instances[name] = kind[0].strip('"')
+        for self.last in lists(cell, "INCREMENT"):
+            raise ValueError
+        for self.last in lists(cell, "IOPATH"):
+            _, start, end, *times = self.last
+            self.widen(self.arcs.setdefault((name, end), {}), edgeless(start), times)
+        for self.last in lists(cell, "INTERCONNECT"):
+            _, _, end, *times = self.last
+            self.widen(self.wires, tuple(re.split(r"[/.](?=[^/.]*$)", edgeless(end))), times)
+        for self.last in lists(cell, "PORT"):
+            _, pin, *times = self.last
+            self.widen(self.wires, (name, edgeless(pin)), times)
+        for word in ("SETUP", "HOLD", "SETUPHOLD"):
+            for self.last in lists(cell, word):
+                _, pin, clock, *times = self.last
+                self.edges.setdefault(name, set()).add(edge(clock))
+                pin = edgeless(pin)
+                if word != "HOLD":
+                    self.widen(self.setup.setdefault(name, {}), pin, times[:1])
+                if word != "SETUP":
+                    self.widen(self.hold.setdefault(name, {}), pin, times[-1:])
 
     def widen(self, bounds, key, triples):
         """Takes some times, each least:usual:greatest, into the bounds of a key."""
@@ -81,7 +117,7 @@ class Delays:
 
 
 def main():
-    parser = argparse.ArgumentParser(description=__doc__)
+    parser = Parser(description=__doc__)
     parser.add_argument("delays", metavar="DELAYS.sdf")
     parser.add_argument("--tick", type=tick, default="1ps", help="how long a tick is, else 1ps")
     words = parser.parse_args()
@@ -91,4 +127,4 @@ def main():
 
 
 if __name__ == "__main__":
-    main()
+    run(main)

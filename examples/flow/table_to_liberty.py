@@ -2,17 +2,22 @@
 """Prints a delay table as Liberty.
 
 The library has the cells of the netlist, as bench_to_verilog.py names them. The least delays are
-for hold checks and the greatest for setup checks. One tick is a picosecond.
+for hold checks and the greatest for setup checks. Times are in picoseconds; a tick is as long as
+the files say, or one of these.
 """
-import argparse
-import tomllib
-
 from bench_to_verilog import statements
+from tables import Table
+from texts import Parser, common_tick, run
 
 FUNCTIONS = {  # what stands in front of the inputs, and between them
     "AND": ("", "&"), "NAND": ("!", "&"), "OR": ("", "|"), "NOR": ("!", "|"),
     "XOR": ("", "^"), "XNOR": ("!", "^"), "BUFF": ("", ""), "NOT": ("!", ""),
 }
+
+
+def picoseconds(time, length):
+    """A time in ticks of that many picoseconds."""
+    return f"{float(time * length):.12g}"
 
 
 def both(name, value):
@@ -49,26 +54,30 @@ def print_register(times, value):
 
 
 def main():
-    parser = argparse.ArgumentParser(description=__doc__)
+    parser = Parser(description=__doc__)
     parser.add_argument("table", metavar="TABLE.toml")
     parser.add_argument("bound", choices=("least", "greatest"))
     parser.add_argument("netlist", metavar="NETLIST.bench")
     words = parser.parse_args()
-    bound = words.bound
-    table = tomllib.load(open(words.table, "rb"))
+    bound, table = words.bound, Table(words.table)
+    length = common_tick([words.table, words.netlist]).count("ps")
     print(f"library ({bound}) {{\n  delay_model : table_lookup;\n  time_unit : \"1ps\";")
     print("  capacitive_load_unit (1, ff);")
     for edge in ("rise", "fall"):
         print(f"  input_threshold_pct_{edge} : 50; output_threshold_pct_{edge} : 50;")
         print(f"  slew_lower_threshold_pct_{edge} : 20; slew_upper_threshold_pct_{edge} : 80;")
-    print_register(table["register"], table["register"][bound])
+    times = {key: picoseconds(table.number("register", key), length)
+             for key in ("setup", "hold", bound)}
+    print_register(times, times[bound])
     cells = {(kind, len(reads)) for kind, _, reads in statements(words.netlist) if kind in FUNCTIONS}
     for kind, inputs in sorted(cells):
-        times = table["gate"][kind]
-        more = (inputs - 1) * times.get(f"{bound}_per_input", 0)
-        print_gate(kind, inputs, times[bound] + more)
+        more = f"{bound}_per_input"
+        value = table.number("gate", kind, bound)
+        if table.has("gate", kind, more):
+            value += (inputs - 1) * table.number("gate", kind, more)
+        print_gate(kind, inputs, picoseconds(value, length))
     print("}")
 
 
 if __name__ == "__main__":
-    main()
+    run(main)
