@@ -24,14 +24,6 @@ needs_tool() {
     command -v "$1" >/dev/null 2>&1 || fail "$1: the command isn't there"
 }
 
-# top_of NETLIST.v: the name of its first module.
-top_of() {
-    local top
-    top=$(sed -n 's/^ *\((\*.*\*) *\)\{0,1\}module *\([^ (;]*\).*/\2/p' "$1" | head -n 1)
-    [ -n "$top" ] || fail "$1: no module"
-    echo "$top"
-}
-
 # sta_runs SCRIPT.tcl LOG: runs OpenSTA. What isn't found, and times of another unit, it only warns
 # of, and then nothing is as it was to be.
 sta_runs() {

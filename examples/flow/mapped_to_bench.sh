@@ -7,7 +7,7 @@ set -u
 here=$(cd "$(dirname "$(readlink -f "${BASH_SOURCE[0]}")")" && pwd)
 # shellcheck source=common.sh
 . "$here/common.sh"
-[ $# -ge 3 ] || fail 'it takes MAPPED.v, LIBRARY.lib and OUT'
+[ $# -ge 3 ] || fail 'mapped_to_bench.sh: it takes MAPPED.v, LIBRARY.lib and OUT'
 needs_files "$1" "$2"
 needs_library "$2"
 work=$(mktemp -d) || exit 1
@@ -17,7 +17,7 @@ export NETLIST=$1 LIBRARY=$2 DELAYS=$work/out.sdf TOP
 out=$3
 shift 3
 [ -d "$(dirname "$out")" ] || fail "$out: there is no such folder"
-TOP=$(top_of "$NETLIST") || exit 1
+TOP=$("$here/mapped_verilog.py" "$NETLIST" --top) || exit 1
 cat >"$work/delays.tcl" <<'END'
 read_liberty $env(LIBRARY)
 read_verilog $env(NETLIST)

@@ -4,6 +4,7 @@
 The netlist is flat: one module of instances whose pins are named. A register is an instance whose
 clock pin is connected, and its net the one that its output drives. A net has a line for each of its
 names, as assignments give it more than one; a name has neither Verilog's mark in front nor blanks.
+With --top prints the name of the module alone.
 """
 import re
 
@@ -163,8 +164,13 @@ def main():
     parser = Parser(description=__doc__)
     parser.add_argument("netlist", metavar="NETLIST.v")
     add_pins(parser)
+    parser.add_argument("--top", action="store_true", help="print the name of the module")
     words = parser.parse_args()
-    for net, instance in Netlist(words.netlist).registers(words.pin, words.output).items():
+    netlist = Netlist(words.netlist)
+    if words.top:
+        print(netlist.name)
+        return
+    for net, instance in netlist.registers(words.pin, words.output).items():
         print(instance, net)
 
 

@@ -124,8 +124,19 @@ def draw_cycle(report, drawing):
         way = arrow(*(ends if kind == "setup" else ends[::-1]))
         titled("path", f"cycle {kind}", " ".join([kind, *names, weight]), d=way)
     if not drawing.is_named:
-        for name, (x, y) in named.items():
-            write(x + 6, y - 8, escape(name), ' class="critical"')
+        draw_names(named)
+
+
+def draw_names(places):
+    """Each name beside its place, a line lower or higher where another is in its way."""
+    taken = []
+    for name, (x, y) in places.items():
+        heights = (y + LINE * step - 8 for step in (0, 1, -1, 2, -2, 3, -3))
+        height = next((height for height in heights if not any(
+            abs(height - other) < LINE and x < right and left < x + 9 * len(name)
+            for left, right, other in taken)), y - 8)
+        taken.append((x, x + 9 * len(name), height))
+        write(x + 6, height, escape(name), ' class="critical"')
 
 
 def draw_scale(drawing, bottom):

@@ -11,6 +11,7 @@ from math import ceil, floor, inf
 
 from texts import UNITS, Parser, fail, lines_of, run, tick
 
+KNOWN = {"IOPATH", "INTERCONNECT", "PORT", "INCREMENT", "SETUP", "HOLD", "SETUPHOLD"}
 TOKEN = re.compile(r'"[^"]*"|[()]|(?:\\.|[^\s()"])+')
 
 
@@ -29,13 +30,13 @@ def tree(path):
     return stack[0]
 
 
-def lists(node, name):
-    """The lists below one that begin with the name."""
+def lists(node, *names):
+    """The lists below one that begin with one of the names."""
     for part in node:
-        if isinstance(part, list):
-            if part[:1] == [name]:
+        if isinstance(part, list) and part:
+            if isinstance(part[0], str) and part[0] in names:
                 yield part
-            yield from lists(part, name)
+            yield from lists(part, *names)
 
 
 def edgeless(pin):
@@ -64,7 +65,7 @@ class Delays:
 
     def __init__(self, path, length):
         self.path, self.arcs, self.wires, self.setup, self.hold = path, {}, {}, {}, {}
-        self.edges, self.instances = {}, {}
+        self.edges, self.instances, self.last = {}, {}, path
         file = tree(path)
         if not (scale := list(lists(file, "TIMESCALE"))):
             fail(path, "not an SDF file with its TIMESCALE")
@@ -86,26 +87,26 @@ class Delays:
         name = "".join(instance).replace("\\", "")
         if name:
             self.instances[name] = kind[0].strip('"')
-        for self.last in lists(cell, "INCREMENT"):
-            raise ValueError
-        for self.last in lists(cell, "IOPATH"):
-            _, start, end, *times = self.last
-            self.widen(self.arcs.setdefault((name, end), {}), edgeless(start), times)
-        for self.last in lists(cell, "INTERCONNECT"):
-            _, _, end, *times = self.last
-            self.widen(self.wires, tuple(re.split(r"[/.](?=[^/.]*$)", edgeless(end))), times)
-        for self.last in lists(cell, "PORT"):
-            _, pin, *times = self.last
-            self.widen(self.wires, (name, edgeless(pin)), times)
-        for word in ("SETUP", "HOLD", "SETUPHOLD"):
-            for self.last in lists(cell, word):
-                _, pin, clock, *times = self.last
-                self.edges.setdefault(name, set()).add(edge(clock))
-                pin = edgeless(pin)
-                if word != "HOLD":
-                    self.widen(self.setup.setdefault(name, {}), pin, times[:1])
-                if word != "SETUP":
-                    self.widen(self.hold.setdefault(name, {}), pin, times[-1:])
+        for self.last in lists(cell, *KNOWN):
+            word, *words = self.last
+            if word == "IOPATH":
+                self.widen(self.arcs.setdefault((name, words[1]), {}), edgeless(words[0]), words[2:])
+            elif word == "INTERCONNECT":
+                end = tuple(re.split(r"[/.](?=[^/.]*$)", edgeless(words[1])))
+                self.widen(self.wires, end, words[2:])
+            elif word == "PORT":
+                self.widen(self.wires, (name, edgeless(words[0])), words[1:])
+            elif word == "INCREMENT":
+                raise ValueError
+            else:
+                self.take_check(name, word, *words)
+
+    def take_check(self, name, word, pin, clock, *times):
+        self.edges.setdefault(name, set()).add(edge(clock))
+        if word != "HOLD":
+            self.widen(self.setup.setdefault(name, {}), edgeless(pin), times[:1])
+        if word != "SETUP":
+            self.widen(self.hold.setdefault(name, {}), edgeless(pin), times[-1:])
 
     def widen(self, bounds, key, triples):
         """Takes some times, each least:usual:greatest, into the bounds of a key."""

@@ -112,11 +112,12 @@ class Circuit:
 
     def refuse_gaps(self):
         """Refuses a cell that has no delays though something goes through it."""
-        driven = {*self.arcs, *self.starts, *self.netlist.inputs, CONSTANT}
+        driven = {*self.arcs, *self.starts, *self.netlist.inputs}
         read = {arc.start for arcs in [*self.arcs.values(), *self.checks.values()] for arc in arcs}
+        undriven = read - driven
         for cell, name, pins in self.cells:
-            nets = set(pins.values())
-            if nets & (read - driven) and nets & (driven - {CONSTANT}) and not self.outputs(name, pins):
+            nets = pins.values()
+            if not (undriven.isdisjoint(nets) or driven.isdisjoint(nets) or self.outputs(name, pins)):
                 fail(self.delays.path, f"no delay goes through {name} ({cell})")
 
     def order(self):

@@ -2,7 +2,7 @@
 # slacks.sh NETLIST.bench TABLE.toml ARRIVALS.sdc: prints the slacks that OpenSTA finds, in ticks,
 # as a line NAME SETUP HOLD for each register that a path ends at.
 # slacks.sh MAPPED.v LIBRARY.lib ARRIVALS.sdc [DELAYS.sdf]: the same of a mapped netlist, by
-# instance. The ticks are those of which the SDC says how long they are.
+# instance. Where the SDC doesn't say its tick, slacks of a mapped netlist are in the library's unit.
 set -u
 [ "${1-}" != --help ] || exec sed -n '2,/^[^#]/s/^# //p' "$0"
 here=$(cd "$(dirname "$(readlink -f "${BASH_SOURCE[0]}")")" && pwd)
@@ -28,16 +28,17 @@ case $1 in
         GREATEST=$work/greatest.lib
         scale=$("$here/tick_scale.py" "$3" "$2" "$1") || exit 1
         "$here/bench_to_verilog.py" "$1" >"$NETLIST" || exit 1
-        "$here/table_to_liberty.py" "$2" least "$1" >"$LEAST" || exit 1
-        "$here/table_to_liberty.py" "$2" greatest "$1" >"$GREATEST" || exit 1
+        words=("$1" --tick "${scale#* }")
+        "$here/table_to_liberty.py" "$2" least "${words[@]}" >"$LEAST" || exit 1
+        "$here/table_to_liberty.py" "$2" greatest "${words[@]}" >"$GREATEST" || exit 1
         ;;
 esac
-TOP=$(top_of "$NETLIST") || exit 1
+TOP=$("$here/mapped_verilog.py" "$NETLIST" --top) || exit 1
 sta_runs "$here/slacks.tcl" "$work/log"
 
 # A line of OpenSTA is REGISTER/PIN (CELL) REQUIRED ACTUAL SLACK (MET), or (VIOLATED), or begins
 # with an output's PORT (output). The host's slack is the least of all outputs.
-awk -v scale="$scale" '
+awk -v scale="${scale% *}" '
     $1 == "setup" || $1 == "hold" { check = $1 }
     $NF == "(MET)" || $NF == "(VIOLATED)" {
         name = $0

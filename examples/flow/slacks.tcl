@@ -1,6 +1,9 @@
 # Has OpenSTA print the slack at each register of the module TOP. Its files are named by LEAST and
 # GREATEST (Liberty), NETLIST (Verilog), CONSTRAINTS (SDC) and DELAYS (SDF, if there is one). Setup
-# is checked with the greatest delays, and hold with the least.
+# is checked with the greatest delays, and hold with the least; recovery and removal of resets and
+# gates in the clock aren't.
+set sta_recovery_removal_checks_enabled 0
+set sta_gated_clock_checks_enabled 0
 read_liberty -min $env(LEAST)
 read_liberty -max $env(GREATEST)
 read_verilog $env(NETLIST)

@@ -7,7 +7,7 @@ the files say, or one of these.
 """
 from bench_to_verilog import statements
 from tables import Table
-from texts import Parser, common_tick, run
+from texts import Parser, common_tick, run, tick
 
 FUNCTIONS = {  # what stands in front of the inputs, and between them
     "AND": ("", "&"), "NAND": ("!", "&"), "OR": ("", "|"), "NOR": ("!", "|"),
@@ -58,9 +58,10 @@ def main():
     parser.add_argument("table", metavar="TABLE.toml")
     parser.add_argument("bound", choices=("least", "greatest"))
     parser.add_argument("netlist", metavar="NETLIST.bench")
+    parser.add_argument("--tick", type=tick, help="how long a tick is, else 1ps")
     words = parser.parse_args()
     bound, table = words.bound, Table(words.table)
-    length = common_tick([words.table, words.netlist]).count("ps")
+    length = common_tick([words.table, words.netlist], words.tick).count("ps")
     print(f"library ({bound}) {{\n  delay_model : table_lookup;\n  time_unit : \"1ps\";")
     print("  capacitive_load_unit (1, ff);")
     for edge in ("rise", "fall"):

@@ -1,12 +1,13 @@
 #!/usr/bin/env python3
-"""Prints how many ticks the unit is in which OpenSTA shows times, for slacks.sh.
+"""Prints how many ticks the unit is in which OpenSTA shows times, and the tick, for slacks.sh.
 
 The tick is the one that the SDC says, and files that say another are refused. The unit is that of
-the library, or a picosecond, in which table_to_liberty.py writes.
+the library, or a picosecond, in which table_to_liberty.py writes. Where an SDC for a library says no
+tick, its unit stands for one.
 """
 import re
 
-from texts import UNITS, Parser, common_tick, fail, lines_of, run, tick_of
+from texts import UNITS, Parser, common_tick, lines_of, run, tick_of
 
 
 def unit_of(library):
@@ -21,13 +22,13 @@ def main():
     parser.add_argument("others", metavar="FILE", nargs="*")
     parser.add_argument("--library", metavar="LIBRARY.lib")
     words = parser.parse_args()
-    length = common_tick([words.constraints, *words.others]).length
+    length = common_tick([words.constraints, *words.others])
     if not words.library:
-        print(float(UNITS["ps"] / length))
+        print(float(UNITS["ps"] / length.length), length)
     elif tick_of(words.constraints):
-        print(float(unit_of(words.library) / length))
+        print(float(unit_of(words.library) / length.length), length)
     else:
-        fail(words.constraints, "the SDC doesn't say its tick, as '# tick 10ps'")
+        print(1, length)
 
 
 if __name__ == "__main__":
