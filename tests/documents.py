@@ -1,6 +1,7 @@
 #!/usr/bin/env python3
-"""Runs the commands of the README and of the pages of docs/ whose output stands there, compares the two, and counts them. It follows
-the links between the pages, looks at the lengths that some have at most, and at what share/make.py makes of tables and pages."""
+"""Runs the commands of the README and of the pages of docs/ whose output stands there, compares the two, and counts them. It makes
+the pictures of docs/ again and compares these, follows the links between the pages, and looks at the lengths that some have at most
+and at what share/make.py makes of tables and pages."""
 import argparse
 import glob
 import os
@@ -15,6 +16,15 @@ PAGES += sorted(glob.glob("crates/*/README.md", root_dir=ROOT))
 MOST_LINES = {"README.md": 130, "docs/PROVING.md": 350}
 # How many commands of a page run; of any other page, none.
 COUNTS = {"README.md": 7, "docs/COMMANDS.md": 10, "docs/DEFINITIONS.md": 1, "docs/FLOW.md": 1}
+
+
+# What makes each picture, in a folder with the program and the examples.
+BIQUAD = "examples/biquad.bench examples/biquad.toml examples/biquad.pl"
+PICTURES = {
+    "docs/biquad.svg": "./cts synth --bench examples/biquad.bench --tech examples/biquad.toml --pl examples/biquad.pl > biquad.cts"
+                       " && examples/flow/report_to_svg.py biquad.cts",
+    "docs/biquad_wire.svg": f"examples/flow/wire_by_period.py {BIQUAD} --svg",
+}
 
 
 def text_of(page):
@@ -39,6 +49,16 @@ def run_block(commands):
                                   timeout=600, check=False)
             if done.stdout.decode() != expected:
                 yield command, done.stdout.decode()
+
+
+def wrong_pictures():
+    """The pictures of docs/ that nothing makes, or that come out otherwise."""
+    pictures = sorted(glob.glob("docs/*.svg", root_dir=ROOT))
+    for picture in sorted({*pictures, *PICTURES}):
+        if picture not in PICTURES or picture not in pictures:
+            yield picture, "nothing makes it" if picture in pictures else "it isn't there"
+        else:
+            yield from ((picture, "it comes out otherwise") for _ in run_block([(PICTURES[picture], text_of(picture))]))
 
 
 def dead_links(page):
@@ -71,6 +91,11 @@ def main():
         for link in dead_links(page):
             print(f"{page} names {link}, which isn't there")
             failed += 1
+    wrong = list(wrong_pictures())
+    for picture, reason in wrong:
+        print(f"{picture}: {reason}")
+    failed += len(wrong)
+    passed += len(PICTURES) - len(wrong)
     print(f"{passed} passed, {failed} failed")
     return 1 if failed else 0
 

@@ -64,6 +64,15 @@ merges() {
     awk 'NF == 2 && $1 == "merges" { left = $2; next } left-- > 0 { print $1, $2, $3 }' "$work/$1"
 }
 
+# row_stands NAME NETLIST TABLE PLACEMENT: the row of the design is one of those of the page.
+row_stands() {
+    "$flow/design_row.py" "$@" --cts "$program" >"$work/row" &&
+        if ! grep -qxFf "$work/row" "$top/docs/FLOW.md"; then
+            echo "docs/FLOW.md lacks $(cat "$work/row")"
+            return 1
+        fi
+}
+
 # From Verilog to a netlist, or the netlist that lies there.
 netlist=$work/biquad.bench
 table=$top/examples/biquad.toml
@@ -133,6 +142,7 @@ holds 'all is drawn' drawn report "$(word registers report)" "$(word cycle repor
 # priced NETLIST TABLE PLACEMENT PERIOD..: a line for each period.
 priced() { "$flow/wire_by_period.py" "$@" --cts "$program" >"$work/prices"; }
 if has_toml; then
+    holds 'its row' row_stands biquad "$netlist" "$table" "$work/biquad.pl"
     holds 'wire by period' priced "$netlist" "$table" "$work/biquad.pl" "$period" "$zero"
     holds 'the first period is that of the report' \
         same <(awk 'NR == 1 { print $1, $2 }' "$work/prices") <(echo "$period $(word wire report)")
@@ -439,6 +449,7 @@ if has yosys && has berkeley-abc && has sta && [ -e "$library" ] && has_toml; th
     zero=$(word zero mapped_zero)
     holds 'its wire at equal arrivals' priced "$mapped.bench" "$mapped.toml" "$mapped.pl" "$zero"
     holds 'is less' at_least "$(word wire mapped_report)" "$(awk '{ print $2 }' "$work/prices")"
+    holds 'its row' row_stands 'biquad, mapped' "$mapped.bench" "$mapped.toml" "$mapped.pl"
     holds 'its margin' cts mapped_margin margin "${circuit[@]}" --period "$zero"
     holds 'the tree for it' tree_of mapped_margin "$mapped.toml" "$mapped.pl"
     holds 'which keeps its arrivals' kept mapped_margin "$(parts mapped_margin)"
@@ -456,14 +467,6 @@ coarser() {
     echo '# tick 10ps'
     awk '$2 == "=" && $3 ~ /^[0-9]+$/ { $3 = int(($3 + (/^least/ ? 0 : 9)) / 10) }
         $1 == "delay" { $3 = "\"1/100\"" } 1' "$1"
-}
-# row_stands NAME NETLIST TABLE PLACEMENT: the row of the design is one of those of the page.
-row_stands() {
-    "$flow/design_row.py" "$@" --cts "$program" >"$work/row" &&
-        if ! grep -qxFf "$work/row" "$top/docs/FLOW.md"; then
-            echo "docs/FLOW.md lacks $(cat "$work/row")"
-            return 1
-        fi
 }
 # from_verilog NAME WORD..: each slack is as printed on two tick lengths.
 from_verilog() {
