@@ -639,7 +639,11 @@ mapped_of edges 'DFFNEGX1 u3 (.CLK(clk), .D(r), .Q(s));'
 mapped_of latch 'LATCH u3 (.CLK(clk), .D(r), .Q(s));'
 mapped_of gated 'AND2X2 g1 (.A(clk), .B(a), .Y(c)); DFFPOSX1 u3 (.CLK(c), .D(r), .Q(s));'
 mapped_of through 'AND2X2 g1 (.A(r), .B(a), .Y(c)); DFFPOSX1 u3 (.CLK(clk), .D(c), .Q(s));'
+sed '$d; s/module fine/module escaped/' fine.v >escaped.v
+printf '%s\n' 'wire \\q(1)//x=2, ; DFFPOSX1 \\u[4](* (.CLK(clk), .D(r), .Q(\\q(1)//x=2, ));' endmodule >>escaped.v
 head -n 4 fine.v >cut.v
+names_of() { "$flow/mapped_verilog.py" escaped.v --pin CLK | tail -n 1 | diff - <(echo 'u[4](* q%281%29//x%3d2%2c'); }
+holds 'escaped names' names_of
 row 'two clocks' 1 'clocks.v: the registers have several clocks: clk at u1 (DFFPOSX1) and clk2 at u3 (DFFPOSX1)' \
     "$flow/mapped_verilog.py" clocks.v --pin CLK
 row 'a clock by a gate' 1 'gated.v: the clock c of the register u3 (DFFPOSX1) is no input, but is made by g1 (AND2X2)' \

@@ -3,7 +3,8 @@
 
 The netlist is flat: one module of instances whose pins are named. A register is an instance whose
 clock pin is connected, and its net the one that its output drives. A net has a line for each of its
-names, as assignments give it more than one; a name has neither Verilog's mark in front nor blanks.
+names, as assignments give it more than one; a name has neither Verilog's mark in front nor blanks,
+and for a sign that no netlist of cts has in a name, as a bracket, its number stands: %28.
 With --top prints the name of the module alone.
 """
 import re
@@ -12,7 +13,8 @@ from bench_to_verilog import plain
 from texts import Parser, fail, lines_of, run
 
 TOKEN = re.compile(r"\\\S+|\d*'[sS]?[bodhBODH][\w?]+|[\w$]+|[^\s\w]")
-COMMENT = re.compile(r"/\*.*?\*/|//[^\n]*|\(\*.*?\*\)", re.DOTALL)
+COMMENT = re.compile(r"(\\\S+)|/\*.*?\*/|//[^\n]*|\(\*.*?\*\)", re.DOTALL)
+SIGNS = re.compile("[(),=#]")  # what a name of a net can't have in a netlist of cts
 DECLARATIONS = {"input", "output", "inout", "wire", "tri", "reg", "signed"}
 
 
@@ -38,8 +40,8 @@ class Netlist:
 
     def statements(self):
         """The statements of the one module that the file has to hold to its end."""
-        text = COMMENT.sub(" ", "".join(lines_of(self.path)))
-        # An escaped name ends at a blank, and no keyword stands in one.
+        # In an escaped name, which ends at a blank, stand neither comments nor keywords.
+        text = COMMENT.sub(lambda found: found[1] or " ", "".join(lines_of(self.path)))
         modules = re.findall(r"(?<![\\\w$])(module|endmodule)(?![\w$])", text)
         if modules.count("module") > 1:
             fail(self.path, "more than one module: flatten the netlist first")
@@ -103,6 +105,7 @@ class Netlist:
             return ["constant"] * int(words[0].split("'")[0] or 1)
         name = plain(words[0])
         bounds = (int(words[2]), int(words[-2])) if words[1:] else self.ranges.get(name)
+        name = SIGNS.sub(lambda sign: f"%{ord(sign[0]):02x}", name)
         if bounds is None:
             return [name]
         step = 1 if bounds[0] <= bounds[1] else -1
