@@ -398,9 +398,10 @@ place_mapped() {
 }
 # signed_off_mapped TEXT [DELAYS.sdf]: the slacks in ticks by instances, kept as TEXT.slacks.
 signed_off_mapped() {
-    "$flow/arrivals_to_sdc.py" "$work/$1" --table "$mapped.toml" --netlist "$mapped.v" \
-        --clock "$clock" --pin CLK --unit ns >"$work/$1.sdc" &&
-        "$flow/slacks.sh" "$mapped.v" "$library" "$work/$1.sdc" "${@:2}" >"$work/$1.slacks"
+    [ -s "$work/$1.sdc" ] ||
+        "$flow/arrivals_to_sdc.py" "$work/$1" --table "$mapped.toml" --netlist "$mapped.v" \
+            --clock "$clock" --pin CLK --unit ns >"$work/$1.sdc" || return
+    "$flow/slacks.sh" "$mapped.v" "$library" "$work/$1.sdc" "${@:2}" >"$work/$1.slacks"
 }
 # even_edges TICK IN_PS: an SDF of whole ticks where both edges are alike: exactly what the netlist
 # has. A tick is so many picoseconds.
@@ -484,8 +485,8 @@ from_verilog() {
     done
     holds "$design: its row" row_stands "$design" "$netlist" "$top/examples/biquad.toml" "$placement"
 }
-# from_mapped NAME TICK IN_PS: with delays of whole ticks each slack is as printed, and with those
-# of OpenSTA none is below that.
+# from_mapped NAME TICK IN_PS: with delays of whole ticks of 10 ps each slack is as printed, and with
+# those of OpenSTA none is below that.
 from_mapped() {
     local design=$1.mapped.$2 tick=$2
     to_ticks() { "$flow/sdf_to_bench.py" "$mapped.v" "$mapped.sdf" --out "$mapped" --pin CLK --tick "$tick"; }
@@ -494,9 +495,11 @@ from_mapped() {
     [ "$(head -n 1 "$mapped.bench")" = "# tick $tick" ] || holds "$design: delays" to_ticks
     holds "$design: placement" to_placement
     holds "$design: synth" cts "$design" synth --bench "$mapped.bench" --tech "$mapped.toml" --pl "$mapped.pl"
-    holds "$design: an SDF of whole ticks" even_edges "$2" "$3"
-    holds "$design: OpenSTA with it" signed_off_mapped "$design" "$mapped.even.sdf"
-    holds "$design: each slack is as printed there" printed "$design" "$design" "${of_mapped[@]}"
+    if [ "$tick" = 10ps ]; then
+        holds "$design: an SDF of whole ticks" even_edges "$tick" "$3"
+        holds "$design: OpenSTA with it" signed_off_mapped "$design" "$mapped.even.sdf"
+        holds "$design: each slack is as printed there" printed "$design" "$design" "${of_mapped[@]}"
+    fi
     holds "$design: OpenSTA with its own SDF" signed_off_mapped "$design" "$mapped.sdf"
     holds "$design: no slack is below the printed one" printed "$design" "$design" "${of_mapped[@]}" --safe
 }
@@ -640,7 +643,7 @@ mapped_of latch 'LATCH u3 (.CLK(clk), .D(r), .Q(s));'
 mapped_of gated 'AND2X2 g1 (.A(clk), .B(a), .Y(c)); DFFPOSX1 u3 (.CLK(c), .D(r), .Q(s));'
 mapped_of through 'AND2X2 g1 (.A(r), .B(a), .Y(c)); DFFPOSX1 u3 (.CLK(clk), .D(c), .Q(s));'
 sed '$d; s/module fine/module escaped/' fine.v >escaped.v
-printf '%s\n' 'wire \\q(1)//x=2, ; DFFPOSX1 \\u[4](* (.CLK(clk), .D(r), .Q(\\q(1)//x=2, ));' endmodule >>escaped.v
+printf '%s\n' 'wire \q(1)//x=2, ; DFFPOSX1 \u[4](* (.CLK(clk), .D(r), .Q(\q(1)//x=2, ));' endmodule >>escaped.v
 head -n 4 fine.v >cut.v
 names_of() { "$flow/mapped_verilog.py" escaped.v --pin CLK | tail -n 1 | diff - <(echo 'u[4](* q%281%29//x%3d2%2c'); }
 holds 'escaped names' names_of
