@@ -85,7 +85,7 @@ def main():
     shorter = Tick(Fraction(length.length, parts), length.unit)
     texts = {"toml": table(given, parts, int(period * parts)),
              "bench": netlist(int(period * parts), delays)}
-    write_files({f"{words.out}.{end}": "".join(f"{line}\n" for line in [f"# tick {shorter}", *lines])
+    write_files({f"{words.out}.{end}": "\n".join([f"# tick {shorter}", *lines, ""])
                  for end, lines in texts.items()})
     if parts > 1:
         print(f"{words.out}.toml: a tick is {shorter} here, and {length} in {words.table}",

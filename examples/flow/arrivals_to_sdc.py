@@ -7,8 +7,8 @@ all delays are whole ticks, what held before then still holds: no setup or hold 
 least 0 falls below 0. A tick that is no decimal, as a third, is rounded too, by less than a
 millionth of it for each time. Without --netlist a register's instance has the register's name. With
 it, it is the instance of the mapped netlist whose output drives the net of that name. A host is a
-clock of its own, at whose arrival inputs other than the clock are launched and outputs captured; its
-times are those of the table. The tick is that of the tables, of the text or of --tick.
+clock of its own, at whose arrival inputs other than the clock are launched and outputs captured;
+its times are those of the table. The tick is that of the tables, of the text or of --tick.
 """
 from fractions import Fraction
 from itertools import count
@@ -22,6 +22,7 @@ from texts import (HOST, UNITS, Parser, arrivals_of, common_tick, decimal, fail,
 
 STEPS = 1000  # steps in a tick, to which times are rounded
 FINE = 1000000  # steps in a tick that is no decimal
+ROUNDED = "# The period is rounded up, and arrivals are rounded down."
 
 
 class Scale:
@@ -100,11 +101,11 @@ def main():
     length = common_tick(files, words.tick)
     scale = Scale(length, words.unit or length.unit)
     if not scale.is_exact:
-        print("# The period is rounded up, and arrivals are rounded down, for the tick is no decimal.")
+        print(f"{ROUNDED[:-1]}, for the tick is no decimal.")
     elif all(map(scale.is_whole, [period, *(arrival for _, arrival in arrivals)])):
         print("# The times are exact.")
     else:
-        print("# The period is rounded up, and arrivals are rounded down.")
+        print(ROUNDED)
     print(f"# tick {length}")
     print(f"set_units -time {scale.unit}")
     period = scale.decimal(period, ceil)

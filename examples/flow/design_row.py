@@ -12,7 +12,8 @@ from bench_to_verilog import statements
 from texts import UNITS, Parser, common_tick, decimal, fail, run, tick
 from wire_by_period import CTS, answer, number, wires
 
-HEAD = ("Design", "Registers", "Gates", "Equal arrivals", "Skew", "Wire", "Wire with skew", "Margin")
+HEAD = ("Design", "Registers", "Gates", "Equal arrivals", "Skew", "Wire", "Wire with skew",
+        "Margin")
 
 
 def row(words):

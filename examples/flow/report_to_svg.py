@@ -20,7 +20,8 @@ STYLE = """<style>
   .cycle { fill: none; stroke-width: 2 } .setup { stroke: red; marker-end: url(#red) }
   .hold { stroke: blue; marker-end: url(#blue) } text { font: 14px sans-serif }
   .critical { font-weight: bold; paint-order: stroke; stroke: white; stroke-width: 3px }
-  .scale { fill: none; stroke: black } .register, .bar { fill: seagreen } .merge { fill: gray } .source { fill: purple }
+  .scale { fill: none; stroke: black }
+  .register, .bar { fill: seagreen } .merge { fill: gray } .source { fill: purple }
 </style><rect width="100%" height="100%" fill="white"/>"""
 TIP = """<marker id="{0}" viewBox="0 0 8 8" refX="8" refY="4" markerWidth="6" markerHeight="6"
   orient="auto"><path d="M0,0 L8,4 L0,8 z" fill="{0}"/></marker>"""

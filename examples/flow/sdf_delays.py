@@ -9,7 +9,7 @@ import re
 from decimal import Decimal, InvalidOperation
 from math import ceil, floor, inf
 
-from texts import UNITS, Parser, fail, lines_of, run, tick
+from texts import Parser, fail, lines_of, run, tick
 
 KNOWN = {"IOPATH", "INTERCONNECT", "PORT", "INCREMENT", "SETUP", "HOLD", "SETUPHOLD"}
 TOKEN = re.compile(r'"[^"]*"|[()]|(?:\\.|[^\s()"])+')
@@ -90,7 +90,8 @@ class Delays:
         for self.last in lists(cell, *KNOWN):
             word, *words = self.last
             if word == "IOPATH":
-                self.widen(self.arcs.setdefault((name, words[1]), {}), edgeless(words[0]), words[2:])
+                arcs = self.arcs.setdefault((name, words[1]), {})
+                self.widen(arcs, edgeless(words[0]), words[2:])
             elif word == "INTERCONNECT":
                 end = tuple(re.split(r"[/.](?=[^/.]*$)", edgeless(words[1])))
                 self.widen(self.wires, end, words[2:])

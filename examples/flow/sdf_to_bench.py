@@ -7,9 +7,9 @@ cells compute is left out too: each kind of gate stands for a delay. With --tabl
 table for that, and with --out writes both. A register is named as the net that its output drives.
 Delays are those of sdf_delays.py.
 
-No gate has a delay below 0, so where one of the SDF is, a signal is given as it is some ticks later,
-and what reads it is so much faster: every path keeps its delays. Only where a register's setup and
-hold are closer to one another than the hold of the table allows, its setup is taken to be longer.
+No gate has a delay below 0, so where one of the SDF is, a signal is given as it is some ticks
+later, and what reads it is so much faster: every path keeps its delays. Only where a register's
+setup and hold together are less than the hold of the table, its setup is taken to be longer.
 """
 from dataclasses import dataclass
 from functools import cache
@@ -99,7 +99,8 @@ class Circuit:
             fail(self.delays.path, f"the register {name} ({cell}) has no setup check")
         for output in self.outputs(name, pins):
             if passed := checked.keys() & self.delays.arcs[name, output].keys():
-                fail(self.netlist.path, f"{name} ({cell}) is a latch: {min(passed)} goes through it")
+                passed = min(passed)
+                fail(self.netlist.path, f"{name} ({cell}) is a latch: {passed} goes through it")
 
     def refuse_edges(self, registers):
         """Refuses registers of both edges of the clock."""
@@ -108,7 +109,8 @@ class Circuit:
             for edge in self.delays.edges.get(name, set()) - {""} if name in registers else ():
                 first.setdefault(edge, f"{edge} at {name} ({cell})")
         if len(first) > 1:
-            fail(self.netlist.path, f"the registers have both edges: {' and '.join(first.values())}")
+            both = " and ".join(first.values())
+            fail(self.netlist.path, f"the registers have both edges: {both}")
 
     def refuse_gaps(self):
         """Refuses a cell that has no delays though something goes through it."""
@@ -117,7 +119,8 @@ class Circuit:
         undriven = read - driven
         for cell, name, pins in self.cells:
             nets = pins.values()
-            if not (undriven.isdisjoint(nets) or driven.isdisjoint(nets) or self.outputs(name, pins)):
+            is_passed = not (undriven.isdisjoint(nets) or driven.isdisjoint(nets))
+            if is_passed and not self.outputs(name, pins):
                 fail(self.delays.path, f"no delay goes through {name} ({cell})")
 
     def order(self):
@@ -127,7 +130,8 @@ class Circuit:
         try:
             return list(TopologicalSorter(before).static_order())
         except CycleError as error:
-            fail(self.netlist.path, f"gates read one another in a ring: {' '.join(error.args[1][:9])}")
+            ring = " ".join(error.args[1][:9])
+            fail(self.netlist.path, f"gates read one another in a ring: {ring}")
 
 
 class Shifts:
@@ -143,19 +147,21 @@ class Shifts:
         self.hold = self.least_hold(circuit, order, checks)
         most = dict.fromkeys(order, inf)
         for check in checks:
-            most[check.start] = min(most.get(check.start, inf), check.least + self.hold - check.hold)
+            spare = check.least + self.hold - check.hold
+            most[check.start] = min(most.get(check.start, inf), spare)
         for signal in reversed(order):
             for arc in circuit.arcs.get(signal, []):
                 most[arc.start] = min(most[arc.start], most[signal] + arc.least)
         self.shifts = dict.fromkeys(circuit.checks, 0)
         for signal in order:
             if signal not in circuit.checks:
-                needed = (self.shifts[arc.start] - arc.least for arc in circuit.arcs.get(signal, []))
+                arcs = circuit.arcs.get(signal, [])
+                needed = (self.shifts[arc.start] - arc.least for arc in arcs)
                 self.shifts[signal] = max([min(0, most[signal]), *needed])
 
     @staticmethod
     def least_hold(circuit, order, checks):
-        """A hold with which all checks are exact, if there is one, and every path is 0 or longer."""
+        """A hold with which every path is 0 or longer, and all checks are exact if they can be."""
         earliest = dict.fromkeys(order, inf) | dict.fromkeys(circuit.checks, 0)
         for signal in order:
             for arc in circuit.arcs.get(signal, []):

@@ -2,7 +2,8 @@
 # slacks.sh NETLIST.bench TABLE.toml ARRIVALS.sdc: prints the slacks that OpenSTA finds, in ticks,
 # as a line NAME SETUP HOLD for each register that a path ends at.
 # slacks.sh MAPPED.v LIBRARY.lib ARRIVALS.sdc [DELAYS.sdf]: the same of a mapped netlist, by
-# instance. Where the SDC doesn't say its tick, slacks of a mapped netlist are in the library's unit.
+# instance. Where the SDC doesn't say its tick, slacks of a mapped netlist are in the library's
+# unit.
 set -u
 [ "${1-}" != --help ] || exec sed -n '2,/^[^#]/s/^# //p' "$0"
 here=$(cd "$(dirname "$(readlink -f "${BASH_SOURCE[0]}")")" && pwd)
@@ -45,8 +46,9 @@ awk -v scale="${scale% *}" '
         if (name ~ / \(output\) /) name = "(host)"
         sub(/\/[^\/]+ \([^()]*\) .*/, "", name)
         found = sprintf("%.6f", $(NF - 1) * scale)
-        if (!((name, check) in slack) || found + 0 < slack[name, check] + 0) slack[name, check] = found
         names[name]
+        if ((name, check) in slack && slack[name, check] + 0 <= found + 0) next
+        slack[name, check] = found
     }
     function shown(key) { return key in slack ? slack[key] : "-" }
     END {

@@ -70,7 +70,8 @@ def main():
     times = {key: picoseconds(table.number("register", key), length)
              for key in ("setup", "hold", bound)}
     print_register(times, times[bound])
-    cells = {(kind, len(reads)) for kind, _, reads in statements(words.netlist) if kind in FUNCTIONS}
+    gates = ((kind, len(reads)) for kind, _, reads in statements(words.netlist))
+    cells = {(kind, inputs) for kind, inputs in gates if kind in FUNCTIONS}
     for kind, inputs in sorted(cells):
         more = f"{bound}_per_input"
         value = table.number("gate", kind, bound)

@@ -128,7 +128,7 @@ def tick_of(path):
 
 
 def common_tick(paths, given=None):
-    """The tick that the call and some files say, 1ps where none does. Two that differ are an error."""
+    """The tick that the call and some files say, else 1ps. Two that differ are an error."""
     source = "--tick"
     for path in paths:
         found = tick_of(path)

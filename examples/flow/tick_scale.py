@@ -2,8 +2,8 @@
 """Prints how many ticks the unit is in which OpenSTA shows times, and the tick, for slacks.sh.
 
 The tick is the one that the SDC says, and files that say another are refused. The unit is that of
-the library, or a picosecond, in which table_to_liberty.py writes. Where an SDC for a library says no
-tick, its unit stands for one.
+the library, or a picosecond, in which table_to_liberty.py writes. Where an SDC for a library says
+no tick, its unit stands for one.
 """
 import re
 

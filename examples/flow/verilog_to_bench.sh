@@ -88,19 +88,22 @@ if [ -z "$loose" ]; then
     [ -z "$wrong" ] || refuse "${wrong%.}; --loose takes it"
 fi
 if grep -q '^\.subckt' logic.blif; then
-    refuse "a cell is left that is neither a register nor a gate: $(awk '/^\.subckt/ { print $2; exit }' logic.blif)"
+    cell=$(awk '/^\.subckt/ { print $2; exit }' logic.blif)
+    refuse "a cell is left that is neither a register nor a gate: $cell"
 fi
 
 # Line .latch D Q re CLOCK 2, or fe for the other edge.
 clocks=$(awk '$1 == ".latch" { print $4 == "fe" ? "negedge" : "posedge", $5 }' logic.blif | sort -u)
 [ -n "$clocks" ] || refuse 'it has no register'
-[ "$(wc -l <<<"$clocks")" -eq 1 ] || refuse "the registers have several clocks: ${clocks//$'\n'/ and }"
+[ "$(wc -l <<<"$clocks")" -eq 1 ] ||
+    refuse "the registers have several clocks: ${clocks//$'\n'/ and }"
 awk -v clock="${clocks#* }" '
     { line = line $0 }
     sub(/\\$/, "", line) { next }
     { $0 = line; line = "" }
     $1 == ".inputs" { for (place = 2; place <= NF; place++) found += $place == clock }
-    END { exit !found }' logic.blif || refuse "the clock ${clocks#* } is no input, but is made by a gate or a register"
+    END { exit !found }' logic.blif ||
+    refuse "the clock ${clocks#* } is no input, but is made by a gate or a register"
 
 map="read_genlib $here/kinds.genlib; read_blif logic.blif; strash; dch; map; write_blif gates.blif"
 { berkeley-abc -q "$map" >abc.log 2>&1; } 2>/dev/null

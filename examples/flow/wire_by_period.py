@@ -2,9 +2,9 @@
 """Prints what a clock period costs in wire: for each of some periods, how long the tree is.
 
 A line is PERIOD WIRE TIMES, both as decimals that are rounded up to hundredths, and TIMES how often
-the wire is that of the last line. Without PERIOD these are the least one, the one at which the clock
-may reach all registers at once, and three between them. A period is asked for as the floor of the
-delay table, so none below the least can be had. With --svg prints a drawing of the two instead.
+the wire is that of the last line. Without PERIOD these are the least one, the one at which the
+clock may reach all registers at once, and three between them. A period is asked for as the floor of
+the delay table, so none below the least can be had. With --svg prints a drawing of the two instead.
 """
 import os
 import re
@@ -55,7 +55,8 @@ def usual_periods(program, circuit):
     """The least period, that of equal arrivals, and three between them."""
     found = answer(program, "period", *circuit)
     if found[1] == "zero none":
-        fail(circuit[1], "no period will do where the clock reaches all registers at once: name some")
+        fail(circuit[1], "no period will do where the clock reaches all registers at once:"
+                         " name some")
     least, most = ceil(number(found, "period")), int(number(found, "zero"))
     return [least + (most - least) * part // 4 for part in range(5)]
 
