@@ -681,6 +681,8 @@ if has sta && [ -e "$library" ] && has_toml; then
     printf '%s\n' 'period 900' 'registers 3' 'q 0' 'r 0' 's 0' >fine.arrivals
     "$flow/arrivals_to_sdc.py" fine.arrivals --table fine.toml --netlist fine.v --clock clk --pin CLK --unit ns >fine.sdc
     holds 'slacks of what is fine' "$flow/slacks.sh" fine.v "$library" fine.sdc
+    for end in v sdf sdc; do cp "fine.$end" "fi ne.$end"; done
+    holds 'blanks in names' "$flow/slacks.sh" 'fi ne.v' "$library" 'fi ne.sdc' 'fi ne.sdf'
     grep -v create_clock fine.sdc >clockless.sdc
     row 'an SDC without a clock' 1 'clockless.sdc: there is no clock in the SDC' \
         "$flow/slacks.sh" fine.v "$library" clockless.sdc

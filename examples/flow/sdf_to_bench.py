@@ -67,6 +67,7 @@ class Circuit:
                 if arcs := [Arc(*self.bounds(name, read, pins[read], bounds[read]))
                             for read in bounds if pins.get(read, CONSTANT) != CONSTANT]:
                     self.arcs[pins[pin]] = self.arcs.get(pins[pin], []) + arcs
+        netlist.check_clock(words.pin, registers)
         self.refuse_edges(registers)
         self.refuse_gaps()
 

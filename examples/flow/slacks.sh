@@ -35,6 +35,13 @@ case $1 in
         ;;
 esac
 TOP=$("$here/mapped_verilog.py" "$NETLIST" --top) || exit 1
+# OpenSTA doesn't read an SDF with a blank in its name.
+case $DELAYS in
+    *[[:space:]]*)
+        ln -s "$(readlink -f "$DELAYS")" "$work/delays.sdf" || exit 1
+        DELAYS=$work/delays.sdf
+        ;;
+esac
 sta_runs "$here/slacks.tcl" "$work/log"
 
 # A line of OpenSTA is REGISTER/PIN (CELL) REQUIRED ACTUAL SLACK (MET), or (VIOLATED), or begins

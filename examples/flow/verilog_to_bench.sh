@@ -2,10 +2,10 @@
 # verilog_to_bench.sh [-sv] [--loose] [--tie INPUT=BIT].. FILE.v.. TOP: prints the module TOP as a
 # .bench netlist of gates with one to three inputs and registers of one clock. yosys makes the
 # registers and the logic, and berkeley-abc maps the logic on the kinds of gates. With -sv the files
-# are SystemVerilog. An input that is tied is held at 0 or 1, as a reset that isn't active. Registers
-# of the netlist have no initial values. What yosys warns of is said on the error output. A net that
-# nothing drives or that isn't declared ends the script, unless it is --loose: then what nothing
-# drives is an input.
+# are SystemVerilog. An input that is tied is held at 0 or 1, as a reset that isn't active. The
+# registers of the netlist have no initial values. What yosys warns of is said on the error output. A
+# net that nothing drives or that isn't declared ends the script, unless it is --loose: then what
+# nothing drives is an input.
 set -u
 [ "${1-}" != --help ] || exec sed -n '2,/^[^#]/s/^# //p' "$0"
 here=$(cd "$(dirname "$(readlink -f "${BASH_SOURCE[0]}")")" && pwd)
