@@ -540,7 +540,7 @@ if has yosys && has berkeley-abc && has sta && [ -e "$library" ] && has_toml; th
     done
     holds 'systolic: it has over 1,000 registers' test "$(grep -c DFF "$work/systolic/systolic.bench")" -gt 1000
 else
-    left_out "yosys, berkeley-abc, sta, $library and a Python of 3.11 aren't all there" 'the designs'
+    left_out "yosys, berkeley-abc, sta, $library and a Python of 3.11 aren't all there" 'what goes through four more designs'
 fi
 
 # What can't be modelled, and what is no file of its kind, is refused in one line that says which
@@ -703,6 +703,8 @@ if has sta && [ -e "$library" ] && has_toml; then
         holds "OpenSTA with the $name clock" signed_off "$name" host.toml "$name.bench"
         holds "each slack is as printed with the $name clock" printed "$name" "$name"
     done
+else
+    left_out "sta, $library and a Python of 3.11 aren't all there" 'what is refused of a mapped netlist by its delays'
 fi
 if has yosys && has berkeley-abc; then
     # module_of NAME TEXT: a module of that name and text, in NAME.v.
@@ -741,6 +743,8 @@ if has yosys && has berkeley-abc; then
     # Loosely, what nothing drives is an input, and no path is lost.
     loosely() { to_bench --loose undriven.v undriven 2>/dev/null | grep -c -e '^INPUT(w)$' -e '(q, w)$' | diff - <(echo 2); }
     holds 'what nothing drives is an input' loosely
+else
+    left_out "yosys and berkeley-abc aren't both there" 'what is refused of Verilog'
 fi
 cd "$work" || exit 1
 
