@@ -18,10 +18,20 @@ impl HashKey {
     }
 
     /// The key of the names of a circuit's signals. It goes over their bytes once.
-    pub fn of_circuit(circuit: &Circuit) -> HashKey {
+    pub fn of_signals(circuit: &Circuit) -> HashKey {
         let mut digest = DefaultHasher::new();
         for signal in circuit.signals.as_slice() {
             digest.write(signal.name.as_slice());
+            digest.write_u8(b'\n');
+        }
+        HashKey::of_digest(digest.finish())
+    }
+
+    /// The key of the names of a circuit's registers. It goes over their bytes once.
+    pub fn of_registers(circuit: &Circuit) -> HashKey {
+        let mut digest = DefaultHasher::new();
+        for register in 0..circuit.registers.len() {
+            digest.write(circuit.register_name(register));
             digest.write_u8(b'\n');
         }
         HashKey::of_digest(digest.finish())

@@ -15,7 +15,7 @@ use std::alloc::Global;
 pub fn register_names(alloc: Global, circuit: &Circuit) -> Result<NameSet<'_>, NoMemory>
     ensures { IfOk result (λ names. names ≡ register_names circuit.now) }
 {
-    let mut names = NameSet::new(alloc, HashKey::of_circuit(circuit));
+    let mut names = NameSet::new(alloc, HashKey::of_registers(circuit));
     for register in 0..circuit.registers.len() {
         names.insert(circuit.register_name(register))?;
     }

@@ -16,7 +16,7 @@ pub(crate) fn wanted_nodes<'a>(
     ensures { IfOk result
         (λ names. AreSameNames names (wanted_nodes circuit.now source.now host.now)) }
 {
-    let mut names = NameSet::new(alloc, HashKey::of_circuit(circuit));
+    let mut names = NameSet::new(alloc, HashKey::of_registers(circuit));
     for register in 0..circuit.registers.len() {
         names.insert(register_node(circuit, host, register))?;
     }

@@ -60,7 +60,7 @@ impl<'a> Rules<'a> {
 pub(crate) fn signal_names(alloc: Global, circuit: &Circuit) -> Result<NameSet<'_>, NoMemory>
     ensures { IfOk result (λ names. names ≡ signal_names circuit.now) }
 {
-    let mut names = NameSet::new(alloc, HashKey::of_circuit(circuit));
+    let mut names = NameSet::new(alloc, HashKey::of_signals(circuit));
     for signal in 0..circuit.signals.len() {
         names.insert(signal_name(circuit, signal))?;
     }
