@@ -147,7 +147,7 @@ pub missed_path : (circuit : Circuit) (tech : Tech) (from lane : ℕ) (walk : Wa
 missed_path circuit tech from lane walk capture reach is low missed path is_path =
     let chain = chain_of_path circuit from capture.register path is_path in
     subst (IsReach circuit tech from chain.0) (is.missed lane chain.0 low missed chain.2)
-    (reach.each chain.0) path chain.1
+    (reach.each capture.register chain.0 chain.2) path chain.1
 
 module _ (circuit : Circuit) where
   -- room for as many signals and registers is room for those of the circuit
@@ -200,7 +200,7 @@ module _ (circuit : Circuit) where
               is.captured.all to chain.0 (capture_within circuit to chain.0 chain.2).0 chain.2;
           listed = is.capturers.all chain.0 to chain.2;
         })
-        (some path chain.0 chain.1 (sums_to walk lane chain.0) (reach.each chain.0));
+        (some path chain.0 chain.1 (sums_to walk lane chain.0) (reach.each to chain.0 chain.2));
   }
     where
       some : (path : List ℕ) (signal : ℕ) → IsChain circuit from signal path → (o : Option Sums)

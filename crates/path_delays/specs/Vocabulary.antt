@@ -16,7 +16,7 @@ pub use Rattle.path_delays.specs.JoinedPairs.{AreDelaysBetween, IsJoinedBy, List
 pub use Rattle.path_delays.specs.LaneParts.{AllBounded, lane_of}
 pub use Rattle.path_delays.specs.LaneTables.{CanHand, IsJoined, IsMerged, IsPassed, lane_in, rows_of, table_limit}
 pub use Rattle.path_delays.specs.NarrowParts.{narrow_limit, wide_lanes}
-pub use Rattle.path_delays.specs.Networks.{gate_sums, AreInputs, AreAllReads, AreRanks, IsNetworkOf, all_reads_by}
+pub use Rattle.path_delays.specs.Networks.{gate_sums, AreCapturedUpTo, AreInputs, AreAllReads, AreRanks, IsNetworkOf, all_reads_by}
 pub use Rattle.path_delays.specs.NumberSets.{has_number}
 pub use Rattle.path_delays.specs.SumParts.{AreWithin, delay_limit, no_sums, some_sums, either_sums, merged_sums, sums_through, AreBounded}
 pub use Rattle.path_delays.specs.WalkParts.{IsRoomFor, HasRanksOf, HasReachBetween, ReachesEach, sums_to, HasReach, HaveReachBetween}

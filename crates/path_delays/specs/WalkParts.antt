@@ -1,6 +1,7 @@
 -- What a walk from a register shows.
 use Rattle.std.specs.Prelude.{◌≡◌, ◌≤◌, ℕ, List, Contains, Option, Some, slice_get}
 use Rattle.path_delays.specs.Types.{Circuit, Tech}
+use Rattle.cts_model.specs.Vocabulary.{Captures}
 use Rattle.path_delays.specs.declared.sums.Sums.{Sums}
 use Rattle.path_delays.specs.declared.walk.Walk.{Walk}
 use Rattle.path_delays.specs.Networks.{AreCapturedUpTo, AreRanks, IsNetworkOf}
@@ -11,14 +12,17 @@ use Rattle.path_delays.specs.Reaches.{IsReach}
 abbrev pub sums_to : Walk → (lane : ℕ) → ℕ → Option Sums
 sums_to walk lane signal = sums_at walk.reach lane signal
 
--- the walk's network is that of the circuit and the table
+-- the walk's network is that of the circuit and the table, and no signal that a register captures
+-- has a higher rank than its top
 pub record IsRoomFor (circuit : Circuit) (tech : Tech) (walk : Walk) : Type 0 where
   pub network : IsNetworkOf circuit tech walk.network
   pub room : HasReachRoom walk.network walk.reach
+  pub captured : (register : ℕ) → AreCapturedUpTo circuit walk.network register walk.top
 
--- a lane of the walk has the sums to all that the register reaches
+-- a lane of the walk has the sums to all that the register reaches and that any register captures
 pub record HasReach (circuit : Circuit) (tech : Tech) (from lane : ℕ) (walk : Walk) : Type 0 where
-  pub each : (signal : ℕ) → IsReach circuit tech from signal (sums_to walk lane signal)
+  pub each : (to signal : ℕ) → Captures circuit to signal
+      → IsReach circuit tech from signal (sums_to walk lane signal)
 
 -- a lane has the sums to each of some signals that the register reaches
 abbrev pub ReachesEach : Circuit → Tech → (from lane : ℕ) → List ℕ → Walk → Type 0

@@ -1,5 +1,5 @@
-ghost use Rattle.std.specs.Prelude.{◌≡◌, ◌<◌, ◌≤◌, ◌+◌, ◌++◌, true, IfOk, OnOk, All, length, sum_by};
-ghost use Rattle.path_delays.specs.Vocabulary.{IsLevelsOf, AreWithin, delay_limit, most_of, rank_at, narrow_limit, AreAllReads, AreRanks, IsNetworkOf, all_reads_by};
+ghost use Rattle.std.specs.Prelude.{◌≡◌, ◌<◌, ◌≤◌, ◌+◌, ◌++◌, ℕ, true, IfOk, OnOk, All, length, sum_by};
+ghost use Rattle.path_delays.specs.Vocabulary.{IsLevelsOf, AreWithin, delay_limit, most_of, rank_at, narrow_limit, AreAllReads, AreCapturedUpTo, AreRanks, IsNetworkOf, all_reads_by};
 
 use crate::gate_delays::gate_delays;
 use crate::launching::input_signals;
@@ -67,6 +67,18 @@ impl Network {
             left -= most;
         }
         true
+    }
+
+    /// The highest rank of the signals that the registers of a circuit capture. One pass over these.
+    pub(crate) fn captured_top(&self, circuit: &Circuit) -> u32
+        ensures { (register : ℕ) → AreCapturedUpTo circuit.now self.now register result }
+    {
+        let mut top = 0;
+        for register in 0..circuit.registers.len() {
+            let captured = circuit.register_signal(register).fan_in.as_slice();
+            top = self.top_of(top, captured);
+        }
+        top
     }
 
     /// The highest of a rank and those of some signals.

@@ -27,6 +27,8 @@ pub(crate) struct Launches<'a> {
 pub(crate) struct Walk {
     network: Network,
     reach: Reach,
+    /// The highest rank of the signals that registers capture.
+    top: u32,
 }
 
 impl Walk {
@@ -44,11 +46,17 @@ impl Walk {
         let signals = circuit.signals.len() as u32;
         let gates = levels.gates().len() as u32;
         let reach = Reach::new(alloc, signals, gates, network.is_short())?;
-        Ok(Walk { network, reach })
+        let top = network.captured_top(circuit);
+        Ok(Walk {
+            network,
+            reach,
+            top,
+        })
     }
 
-    /// Walks from up to sixteen registers, from one number on, to all that they reach, each in a
-    /// lane. It tells the number after theirs, and takes no memory.
+    /// Walks from up to sixteen registers, from one number on, to all that they reach and that a
+    /// register captures, each in a lane. It tells the number after theirs, and takes no memory.
+    /// Gates above all that is captured are left out.
     pub(crate) fn walk_block(&mut self, circuit: &Circuit, tech: &Tech, first: usize) -> usize
         requires first { first < length circuit.now.registers }
         requires room { IsRoomFor circuit.now tech.now self.old }
@@ -69,7 +77,7 @@ impl Walk {
             tech,
             registers: &registers[..end - first],
         };
-        self.reach.reach_up_to(&self.network, &launches, u32::MAX);
+        self.reach.reach_up_to(&self.network, &launches, self.top);
         end
     }
 

@@ -34,4 +34,5 @@ returns c =
             few_gates c.args.circuit.now c.args.levels.now c.requires,
             ap length c.gates.ensures,
           ))) held.0 held.1;
+      captured = c.captured_top-top.ensures;
     }

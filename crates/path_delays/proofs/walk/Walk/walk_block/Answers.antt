@@ -1,4 +1,4 @@
--- The lanes of the block hold its registers, and no rank is above the greatest that there may be.
+-- The lanes of the block hold its registers, and nothing that is captured has a higher rank.
 use Rattle.path_delays.proofs.Vocabulary.{◌≡◌, ◌+◌, ◌-◌, ◌<◌, length, take, get_or, Some, ◌∙◌, ap, arith, rules, cases_lt, length-set, length-take, get_or-set_same, get_or-set_other, get_or-take, get_or_default, slice_get-get_or}
 use Rattle.path_delays.proofs.walk.Walk.walk_block.Goals as goal
 
@@ -24,7 +24,7 @@ returns-clause-reach c from after before =
     get_or-take count registers lane 0 (omega arith)
     ∙ (c.loop-from.invariant.each lane (omega (arith, here, c.loop-from-test.false)) ∙ here) in
     record {
-      each = λ signal. c.reach_up_to.ensures.reach lane from signal
+      each = λ to signal captured. c.reach_up_to.ensures.reach lane from signal
           (slice_get-get_or (take count registers) lane 0 inside ∙ ap Some value)
-          (omega (arith, c.requires.room.room.waiting signal, c.requires.room.room.small));
+          (c.requires.room.captured to signal captured);
     }
