@@ -1,7 +1,8 @@
 -- Which registers capture what a walk reached, signal by signal.
-use Rattle.path_delays.proofs.Vocabulary.{ℕ, ◌≡◌, ◌<◌, ◌≤◌, ◌+◌, ◌*◌, ◌⊎◌, ◌==◌, [], ◌∷◌, not, false, slice_index_or, IsPath, IsTrue, List, length, get_or, All, Contains, Option, Some, None, inl, inr, refl, sym, ◌∙◌, ap, subst, arith, Contains-get_or, cases_eq, and_parts, and_from, not-true, eqb-false, ne_eqb, true≢false, Circuit, Tech, Groups, bounds_of, group_of, Capturing, NumberSet, Sums, Walk, has_number, AreInserted, AreListed, IsLowestTaken, IsChain, IsReach, HasReach, sums_to, AreCapturersOf, AreCapturedBelow, IsCapturer, HasCaptureRoom, IsSameCapturing, AreAllReached, AreGathered, IsCapturingOf}
+use Rattle.path_delays.proofs.Vocabulary.{ℕ, ◌≡◌, ◌<◌, ◌≤◌, ◌+◌, ◌*◌, ◌⊎◌, ◌==◌, [], ◌∷◌, ◌++◌, not, false, slice_index_or, IsPath, IsTrue, List, length, get_or, get_or_append_left, length_push, All, Contains, Option, Some, None, inl, inr, refl, sym, ◌∙◌, ap, subst, arith, Contains-get_or, cases_eq, and_parts, and_from, not-true, eqb-false, ne_eqb, true≢false, Circuit, Tech, Groups, bounds_of, group_of, Capturing, NumberSet, Sums, Walk, has_number, AreInserted, AreListed, IsLowestTaken, IsChain, IsReach, HasReach, sums_to, AreCapturersOf, AreCapturedBelow, IsCapturer, HasCaptureRoom, IsSameCapturing, AreAllReached, AreGathered, IsCapturingOf}
 use Rattle.std.proofs.Common.{IsSome}
 use Rattle.path_delays.specs.declared.capturing.Capture.{Capture}
+use Rattle.path_delays.specs.declared.lanes.LaneSums.{LaneSums}
 use Rattle.path_delays.specs.Capturings.{IsCapture}
 use Rattle.path_delays.proofs.ReachedPairs.{chain_of_path}
 use Rattle.path_delays.proofs.CaptureLemmas.{few_signals, few_registers, capture_within}
@@ -138,13 +139,30 @@ gathering_room walk old now next signal room so_far waits = λ k d inside.
       listed = Contains-get_or (group_of now.capturers signal) k d inside;
     })
 
+-- a capture stays one where more is found at several signals
+pub still_capture : (circuit : Circuit) (walk : Walk) (merged : List LaneSums) (more : LaneSums)
+    (capture : Capture) → IsCapture circuit walk merged capture
+    → IsCapture circuit walk (merged ++ more ∷ []) capture
+still_capture circuit walk merged more capture is = record {
+  within = is.within;
+  single = is.single;
+  several = λ place here. let at = is.several place here in record {
+    within = omega (arith, at.within, length_push merged more);
+    captured = at.captured;
+    exact = at.exact;
+    each =
+        rw (get_or_append_left merged (more ∷ []) (record { sums = [] }) place at.within) at.each;
+  };
+  missed = is.missed;
+}
+
 -- no path leads to a register in a lane in which nothing was found
 pub missed_path : (circuit : Circuit) (tech : Tech) (from lane : ℕ) (walk : Walk)
-    (capture : Capture)
-    → HasReach circuit tech from lane walk → IsCapture circuit walk capture → lane < 16
+    (merged : List LaneSums) (capture : Capture) → HasReach circuit tech from lane walk
+    → IsCapture circuit walk merged capture → lane < 16
     → slice_index_or capture.lanes lane false ≡ false → (path : List ℕ)
     → IsPath circuit from capture.register path → ⊥
-missed_path circuit tech from lane walk capture reach is low missed path is_path =
+missed_path circuit tech from lane walk merged capture reach is low missed path is_path =
     let chain = chain_of_path circuit from capture.register path is_path in
     subst (IsReach circuit tech from chain.0) (is.missed lane chain.0 low missed chain.2)
     (reach.each capture.register chain.0 chain.2) path chain.1

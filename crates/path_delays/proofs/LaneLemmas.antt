@@ -1,5 +1,5 @@
 -- Sums in lanes: that they keep within their limits, and what is shown of them.
-use Rattle.path_delays.proofs.Vocabulary.{◌≡◌, ◌+◌, ◌≤◌, ℕ, pos, ◌≤ℤ◌, List, get_or, Option, Some, None, inl, inr, refl, sym, ◌∙◌, ap, subst, arith, IsSome, option_and_then, option_map, cases_lt, get_or_past, get_or_default, clamps, ints, same_Some, Lanes, Sums, lane_of, AreBounded, AreMissing, AreWithin, delay_limit, either_sums, joined_sums, merged_sums, no_sums, some_sums, sums_through}
+use Rattle.path_delays.proofs.Vocabulary.{◌≡◌, ◌+◌, ◌<◌, ◌≤◌, ℕ, pos, ◌≤ℤ◌, List, get_or, Option, Some, None, inl, inr, refl, sym, ◌∙◌, ap, subst, arith, IsSome, option_and_then, option_map, option_map_or, cases_lt, get_or_past, get_or_default, clamps, ints, same_Some, Lanes, Sums, lane_of, AllBounded, AreBounded, AreMissing, AreWithin, delay_limit, either_sums, joined_sums, merged_sums, no_sums, some_sums, sums_through}
 use Rattle.path_delays.proofs.Rooms.{within_higher}
 use Rattle.path_delays.proofs.SumLemmas.{within_joined, within_through}
 
@@ -111,6 +111,27 @@ some_merged limit known sums few bounded_known bounded = elim bounded_known [
         → either_sums (some_sums known) (some_sums sums) ≡ either_sums first second
     both first second first_is second_is =
         ap (λ o. either_sums o (some_sums sums)) first_is ∙ ap (either_sums first) second_is
+
+-- what stands in a lane is bounded where all lanes are
+pub bounded_lane : (limit : ℕ) (row : Option Lanes) (lane : ℕ) → lane < 16
+    → ((lanes : Lanes) → row ≡ Some lanes → AllBounded limit lanes) → (sums : Sums)
+    → option_map (λ (lanes : Lanes). lane_of lanes lane) row ≡ Some sums → AreBounded limit sums
+bounded_lane limit None lane low all sums none = absurd cc
+bounded_lane limit (Some lanes) lane low all sums here =
+    subst (AreBounded limit) (same_Some (lane_of lanes lane) sums here) (all lanes refl lane low)
+
+-- and where only the first is sure to be there
+pub some_merged_if : (limit : ℕ) (known : Sums) (found : Option Sums) → limit ≤ delay_limit
+    → AreBounded limit known → ((sums : Sums) → found ≡ Some sums → AreBounded limit sums)
+    → AreBounded limit (option_map_or (merged_sums known) found known)
+    × (some_sums (option_map_or (merged_sums known) found known)
+    ≡ either_sums (some_sums known) (option_and_then some_sums found))
+some_merged_if limit known None few was bounded = (was, refl)
+some_merged_if limit known (Some sums) few was bounded = (
+  bounded_joined limit (Some known) sums
+      (λ old same. subst (AreBounded limit) (same_Some known old same) was) (bounded sums refl),
+  some_merged limit known sums few was (bounded sums refl),
+)
 
 -- also where the first isn't reached
 pub some_joined : (limit : ℕ) (known : Option Sums) (sums : Sums) → limit ≤ delay_limit

@@ -1,6 +1,6 @@
 -- Sums of delays that a walk holds, and how they are handed from a signal to the gates that read
 -- it.
-use Rattle.std.specs.Prelude.{◌≡◌, ◌≢◌, ◌<◌, ◌≤◌, ◌+◌, ◌*◌, ◌^◌, ◌==◌, ◌&&◌, ◌||◌, ℕ, Bool, false, pos, nat_abs, List, [], ◌∷◌, length, take, All, Option, Some, None, IsSome, is_none, if◌then◌else◌, slice_get, slice_index, slice_index_or}
+use Rattle.std.specs.Prelude.{◌≡◌, ◌≢◌, ◌<◌, ◌≤◌, ◌+◌, ◌*◌, ◌^◌, ◌==◌, ◌&&◌, ◌||◌, ℕ, Bool, false, pos, nat_abs, List, [], ◌∷◌, length, take, All, Option, Some, None, IsSome, is_none, slice_index, slice_index_or}
 use Rattle.std.specs.Int.{int_max}
 use Rattle.std.specs.List.{sum_by}
 use Rattle.std.specs.Option.{option_and_then, option_map, unwrap_or}
@@ -11,14 +11,12 @@ use Rattle.path_delays.specs.declared.network.Network.{Network}
 use Rattle.path_delays.specs.declared.reach.Reach.{Reach}
 use Rattle.path_delays.specs.NumberSets.{has_number}
 use Rattle.path_delays.specs.LaneParts.{AllBounded, lane_of}
-use Rattle.path_delays.specs.LaneTables.{rows_of, table_limit}
+use Rattle.path_delays.specs.LaneTables.{AreBoundedAmong, row_among, rows_of, table_limit}
 use Rattle.path_delays.specs.SumParts.{AreWithin, delay_limit, joined_sums, merged_sums, no_sums, some_sums, sums_through}
 
 -- the sums in all lanes to a signal, if the walk reached it
 abbrev pub lanes_at : Reach → ℕ → Option Lanes
-lanes_at reach signal =
-    if has_number reach.reached.words.items signal then slice_get (rows_of reach.lanes) signal
-    else None
+lanes_at reach signal = row_among (rows_of reach.lanes) reach.reached.words.items signal
 
 -- what stands in a lane at a signal, if the walk reached it
 abbrev pub lane_at : Reach → (lane : ℕ) → ℕ → Option Sums
@@ -57,6 +55,11 @@ limit_at network rank = 1000000 + sum_by (most_at network) (take rank network.or
 -- no sum that a walk holds is more
 abbrev pub limit_of : Reach → ℕ
 limit_of reach = table_limit reach.lanes
+
+-- what is reached holds sums within the limit
+abbrev pub IsBounded : Reach → Type 0
+IsBounded reach =
+    AreBoundedAmong (limit_of reach) (rows_of reach.lanes) reach.reached.words.items
 
 -- room for the signals of a network, whose delays are small
 pub record HasReachRoom (network : Network) (reach : Reach) : Type 0 where

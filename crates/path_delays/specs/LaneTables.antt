@@ -1,11 +1,12 @@
 -- The sums to each signal, in a row of lanes each.
-use Rattle.std.specs.Prelude.{◌≡◌, ◌≢◌, ◌<◌, ◌==◌, ℕ, Bool, List, [], length, map, Option, Some, if◌then◌else◌, slice_get, slice_index_or}
+use Rattle.std.specs.Prelude.{◌≡◌, ◌≢◌, ◌<◌, ◌==◌, ℕ, Bool, List, [], length, map, Option, Some, None, if◌then◌else◌, slice_get, slice_index_or}
 use Rattle.std.specs.Option.{option_map}
 use Rattle.path_delays.specs.declared.sums.Sums.{Sums}
 use Rattle.path_delays.specs.declared.lanes.Lanes.{Lanes}
 use Rattle.path_delays.specs.declared.lane_table.LaneTable.{LaneTable}
 use Rattle.path_delays.specs.declared.lane_table.LaneTable.TheVariants.{Narrow, Wide}
 use Rattle.path_delays.specs.LaneParts.{AllBounded, lane_of}
+use Rattle.path_delays.specs.NumberSets.{has_number}
 use Rattle.path_delays.specs.NarrowParts.{narrow_limit, wide_lanes}
 use Rattle.path_delays.specs.SumParts.{AreWithin, delay_limit, merged_sums, no_sums, sums_through}
 
@@ -22,6 +23,20 @@ table_limit (Wide rows) = delay_limit
 -- what stands in a lane of a signal
 abbrev pub lane_in : List Lanes → (signal lane : ℕ) → Option Sums
 lane_in rows signal lane = option_map (λ lanes. lane_of lanes lane) (slice_get rows signal)
+
+-- the lanes of a signal, if it is in a set
+abbrev pub row_among : List Lanes → (words : List ℕ) → ℕ → Option Lanes
+row_among rows words signal = if has_number words signal then slice_get rows signal else None
+
+-- and what stands in one of them
+abbrev pub lane_among : List Lanes → (words : List ℕ) → (lane : ℕ) → ℕ → Option Sums
+lane_among rows words lane signal =
+    option_map (λ lanes. lane_of lanes lane) (row_among rows words signal)
+
+-- the lanes of the signals of a set hold sums within a limit, or none
+abbrev pub AreBoundedAmong : (limit : ℕ) → List Lanes → (words : List ℕ) → Type 0
+AreBoundedAmong limit rows words = (signal : ℕ) (lanes : Lanes)
+    → row_among rows words signal ≡ Some lanes → AllBounded limit lanes
 
 -- the lanes of a signal that has some
 abbrev pub row_at : List Lanes → ℕ → Lanes

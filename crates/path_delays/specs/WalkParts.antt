@@ -1,9 +1,11 @@
 -- What a walk from a register shows.
-use Rattle.std.specs.Prelude.{◌≡◌, ◌≤◌, ℕ, List, Contains, Option, Some, slice_get}
+use Rattle.std.specs.Prelude.{◌≡◌, ◌<◌, ◌≤◌, ℕ, List, Contains, Option, Some, None, slice_get, slice_index_or}
 use Rattle.path_delays.specs.Types.{Circuit, Tech}
 use Rattle.cts_model.specs.Vocabulary.{Captures}
+use Rattle.path_delays.specs.declared.lanes.LaneSums.{LaneSums}
 use Rattle.path_delays.specs.declared.sums.Sums.{Sums}
 use Rattle.path_delays.specs.declared.walk.Walk.{Walk}
+use Rattle.path_delays.specs.Carrying.{AreExtremesIfAny, StandsAt}
 use Rattle.path_delays.specs.Networks.{AreCapturedUpTo, AreRanks, IsNetworkOf}
 use Rattle.path_delays.specs.Handing.{HasReachRoom, rank_at, sums_at}
 use Rattle.path_delays.specs.Reaches.{IsReach}
@@ -11,6 +13,11 @@ use Rattle.path_delays.specs.Reaches.{IsReach}
 -- the sums to a signal from the register in a lane, if that reaches it
 abbrev pub sums_to : Walk → (lane : ℕ) → ℕ → Option Sums
 sums_to walk lane signal = sums_at walk.reach lane signal
+
+-- in each lane the least and the greatest of the sums to some signals
+abbrev pub AreMerged : Walk → List ℕ → LaneSums → Type 0
+AreMerged walk signals merged = (lane : ℕ) → lane < 16 → AreExtremesIfAny
+    (StandsAt (sums_to walk lane) (Contains signals)) (slice_index_or merged.sums lane None)
 
 -- the walk's network is that of the circuit and the table, and no signal that a register captures
 -- has a higher rank than its top

@@ -1,9 +1,10 @@
-ghost use Rattle.std.specs.Prelude.{◌≡◌, ◌<◌, ◌≤◌, All, IfOk, OnOk, length};
-ghost use Rattle.path_delays.specs.Vocabulary.{Circuit, AreCapturedBy, IsCapture, registers_of, AreGathered, HasCaptureRoom, IsCapturingOf};
+ghost use Rattle.std.specs.Prelude.{◌≡◌, ◌<◌, ◌≤◌, ◌++◌, ◌∷◌, [], All, IfOk, OnOk, length};
+ghost use Rattle.path_delays.specs.Vocabulary.{Circuit, AreCapturedBy, IsBounded, IsCapture, IsFoundIn, ListsCaptures, registers_of, AreGathered, HasCaptureRoom, IsCapturingOf};
 
 use crate::captures::{captured_signals, capturers};
-use crate::lanes::LANES;
+use crate::lanes::{LANES, Lane, LaneSums};
 use crate::number_set::NumberSet;
+use crate::sums::Sums;
 use crate::walk::Walk;
 use cts_base::NoMemory;
 use cts_model::Circuit;
@@ -24,7 +25,25 @@ pub(crate) struct Capturing {
     /// The registers that capture one that the walk reached, in ascending order.
     pub(crate) registers: Vec<u32>,
     /// What the walk found at what each of these captures.
-    pub(crate) captures: Vec<Capture>,
+    pub(crate) captures: CaptureList,
+}
+
+/// What a walk found at what some registers capture.
+#[derive(Drop)]
+pub(crate) struct CaptureList {
+    /// Each register with where that stands.
+    pub(crate) list: Vec<Capture>,
+    /// What it found at several signals together.
+    pub(crate) merged: Vec<LaneSums>,
+}
+
+/// Where what a walk found at what a register captures stands.
+#[derive(Clone, Copy, Debug)]
+pub(crate) enum Found {
+    /// At a single signal, which the walk reached.
+    Single(u32),
+    /// At this place among what it found at several signals.
+    Merged(usize),
 }
 
 /// What a walk found at what a register captures.
@@ -32,51 +51,77 @@ pub(crate) struct Capturing {
 pub(crate) struct Capture {
     /// The register.
     pub(crate) register: u32,
-    /// The signal, if it is a single one and the walk reached it.
-    pub(crate) single: Option<u32>,
+    /// Where it stands.
+    pub(crate) found: Found,
     /// False only in lanes in which the walk found nothing.
     pub(crate) lanes: [bool; 16],
 }
 
 /// Lists what a walk found at what each of these registers captures.
 pub(crate) fn list_captures(
-    captures: &mut Vec<Capture>,
+    captures: &mut CaptureList,
     walk: &Walk,
     circuit: &Circuit,
     registers: &[u32],
 ) -> Result<(), NoMemory>
-    requires { All (λ register. register < length circuit.now.registers) registers.now }
-    ensures registers { OnOk result (registers_of captures.new.items ≡ registers.now) }
-    ensures each { OnOk result (All (IsCapture circuit.now walk.now) captures.new.items) }
+    requires within { All (λ register. register < length circuit.now.registers) registers.now }
+    requires bounded { IsBounded walk.now.reach }
+    ensures registers { OnOk result (registers_of captures.new.list.items ≡ registers.now) }
+    ensures each { OnOk result (ListsCaptures circuit.now walk.now captures.new) }
 {
-    captures.clear();
+    captures.list.clear();
+    captures.merged.clear();
     for register in registers {
         let captured = circuit
             .register_signal(*register as usize)
             .fan_in
             .as_slice();
-        captures.push(capture_of(walk, *register, captured))?;
+        captures.push(walk, *register, captured)?;
     }
     Ok(())
 }
 
-// What a walk found at the signals that a register captures.
-fn capture_of(walk: &Walk, register: u32, captured: &[u32]) -> Capture
-    ensures register { result.register ≡ register }
-    ensures capture { (circuit : Circuit) → register < length circuit.registers
-        → AreCapturedBy circuit register captured.now → IsCapture circuit walk.now result }
-{
-    match captured {
-        [signal] if walk.reached().contains(*signal) => Capture {
-            register,
-            single: Some(*signal),
-            lanes: walk.lanes_to(*signal),
-        },
-        _ => Capture {
-            register,
-            single: None,
-            lanes: [true; LANES],
-        },
+impl CaptureList {
+    // Puts what a walk found at the signals that a register captures last.
+    fn push(&mut self, walk: &Walk, register: u32, captured: &[u32]) -> Result<(), NoMemory>
+        requires { IsBounded walk.now.reach }
+        ensures register { OnOk result
+            (registers_of self.new.list.items ≡ registers_of self.old.list.items ++ register ∷ []) }
+        ensures each { OnOk result ((circuit : Circuit) → register < length circuit.registers
+            → AreCapturedBy circuit register captured.now
+            → ListsCaptures circuit walk.now self.old → ListsCaptures circuit walk.now self.new) }
+    {
+        match captured {
+            [signal] if walk.reached().contains(*signal) => self.list.push(Capture {
+                register,
+                found: Found::Single(*signal),
+                lanes: walk.lanes_to(*signal),
+            })?,
+            _ => {
+                let place = self.merged.len();
+                self.merged.push(walk.merged_sums(captured))?;
+                self.list.push(Capture {
+                    register,
+                    found: Found::Merged(place),
+                    lanes: [true; LANES],
+                })?;
+            }
+        }
+        Ok(())
+    }
+
+    /// What the walk found in a lane at what one of the registers captures.
+    pub(crate) fn sums(&self, walk: &Walk, lane: Lane, capture: &Capture) -> Option<Sums>
+        requires { (circuit : Circuit)
+            × IsCapture circuit walk.now self.now.merged.items capture.now }
+        ensures { (circuit : Circuit)
+            → IsCapture circuit walk.now self.now.merged.items capture.now
+            → IsFoundIn circuit walk.now lane.number capture.now.register result }
+    {
+        match capture.found {
+            Found::Single(signal) => walk.held_sums(lane, signal),
+            Found::Merged(place) => self.merged[place].sums[lane.number],
+        }
     }
 }
 
@@ -95,7 +140,10 @@ impl Capturing {
             reached,
             found,
             registers: Vec::new(alloc),
-            captures: Vec::new(alloc),
+            captures: CaptureList {
+                list: Vec::new(alloc),
+                merged: Vec::new(alloc),
+            },
         })
     }
 

@@ -1,8 +1,9 @@
-ghost use Rattle.std.specs.Prelude.{◌≡◌, ◌<◌, ℕ, false, None, IfOk, length, map, if◌then◌else◌, slice_index_or};
-ghost use Rattle.path_delays.specs.Vocabulary.{option_and_then, CanHand, IsJoined, IsMerged, IsPassed, lane_in, rows_of, table_limit, narrow_limit, AreWithin, delay_limit, some_sums};
+ghost use Rattle.std.specs.Prelude.{◌≡◌, ◌<◌, ◌≤◌, ℕ, false, None, Contains, IfOk, length, map, if◌then◌else◌, slice_index_or};
+ghost use Rattle.path_delays.specs.Vocabulary.{option_and_then, option_map_or, AllBounded, lane_of, merged_sums, AreBoundedAmong, AreExtremesIfAny, StandsAt, lane_among, CanHand, IsJoined, IsMerged, IsPassed, lane_in, rows_of, table_limit, narrow_limit, AreWithin, delay_limit, some_sums};
 
-use crate::lanes::{Lane, Lanes};
+use crate::lanes::{LANES, Lane, LaneSums, Lanes};
 use crate::narrow_lanes::NarrowLanes;
+use crate::number_set::NumberSet;
 use crate::row::Row;
 use crate::sums::Sums;
 use cts_base::NoMemory;
@@ -52,6 +53,22 @@ impl LaneTable {
         match self {
             LaneTable::Narrow(rows) => filled(rows, signal),
             LaneTable::Wide(rows) => filled(rows, signal),
+        }
+    }
+
+    /// In each lane the least and the greatest of what stands there at some signals, as far as
+    /// these are in a set.
+    pub(crate) fn merged(&self, reached: &NumberSet, signals: &[u32]) -> LaneSums
+        requires { AreBoundedAmong (table_limit self.now) (rows_of self.now)
+            reached.now.words.items }
+        ensures { (lane : ℕ) → lane < 16 → AreExtremesIfAny
+            (StandsAt (λ signal. option_and_then some_sums
+            (lane_among (rows_of self.now) reached.now.words.items lane signal))
+            (Contains signals.now)) (slice_index_or result.sums lane None) }
+    {
+        match self {
+            LaneTable::Narrow(rows) => merged(rows, reached, signals),
+            LaneTable::Wide(rows) => merged(rows, reached, signals),
         }
     }
 
@@ -111,6 +128,47 @@ fn filled<R: Row>(rows: &Vec<R>, signal: usize) -> [bool; 16]
         Some(lanes) => lanes.filled(),
         None => [true; 16],
     }
+}
+
+fn merged<R: Row>(rows: &Vec<R>, reached: &NumberSet, signals: &[u32]) -> LaneSums
+    requires few { R.limit ≤ delay_limit }
+    requires bounded { AreBoundedAmong R.limit (map R.wide rows.now.items)
+        reached.now.words.items }
+    ensures { (lane : ℕ) → lane < 16 → AreExtremesIfAny
+        (StandsAt (λ signal. option_and_then some_sums
+        (lane_among (map R.wide rows.now.items) reached.now.words.items lane signal))
+        (Contains signals.now)) (slice_index_or result.sums lane None) }
+{
+    let mut row = R::none();
+    for signal in signals {
+        merge_reached(&mut row, rows, reached, *signal);
+    }
+    in_lanes(&row)
+}
+
+fn merge_reached<R: Row>(row: &mut R, rows: &Vec<R>, reached: &NumberSet, signal: u32)
+    ensures { (lane : ℕ) → lane < 16 → lane_of (R.wide row.new) lane
+        ≡ option_map_or (merged_sums (lane_of (R.wide row.old) lane))
+        (lane_among (map R.wide rows.now.items) reached.now.words.items lane signal)
+        (lane_of (R.wide row.old) lane) }
+{
+    if !reached.contains(signal) {
+        return;
+    }
+    if let Some(other) = rows.get(signal as usize) {
+        row.merge(other);
+    }
+}
+
+fn in_lanes<R: Row>(row: &R) -> LaneSums
+    ensures { (lane : ℕ) → lane < 16
+        → slice_index_or result.sums lane None ≡ some_sums (lane_of (R.wide row.now) lane) }
+{
+    let mut sums = [None; LANES];
+    for lane in 0..LANES {
+        sums[lane] = row.in_lane(Lane { number: lane });
+    }
+    LaneSums { sums }
 }
 
 fn join<R: Row>(rows: &mut Vec<R>, signal: usize, lane: Lane, sums: Sums, first: bool)

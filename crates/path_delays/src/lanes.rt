@@ -26,6 +26,12 @@ pub(crate) struct Lanes {
     pub(crate) sums: [Sums; 16],
 }
 
+/// The sums in each lane, where there are any.
+#[derive(Clone, Copy, Debug)]
+pub(crate) struct LaneSums {
+    pub(crate) sums: [Option<Sums>; 16],
+}
+
 impl Row for Lanes {
     ghost use Rattle.path_delays.specs.SumParts.{delay_limit};
 

@@ -69,7 +69,8 @@ impl Network {
         true
     }
 
-    /// The highest rank of the signals that the registers of a circuit capture. One pass over these.
+    /// The highest rank of the signals that the registers of a circuit capture. One pass over
+    /// these.
     pub(crate) fn captured_top(&self, circuit: &Circuit) -> u32
         ensures { (register : ℕ) → AreCapturedUpTo circuit.now self.now register result }
     {

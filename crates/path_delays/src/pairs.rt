@@ -1,10 +1,10 @@
-ghost use Rattle.std.specs.Prelude.{◌≡◌, ◌<◌, ◌≤◌, ◌+◌, ◌++◌, All, length, vec_len, IfErr, IfOk, OnOk};
-ghost use Rattle.path_delays.specs.Vocabulary.{option_to_list, Tech, HasReach, AreAllReached, IsCapture, IsCapturingOf, registers_of, ListsPairsBefore, ShowsTooMany, MeetsLimit, pair_limit};
+ghost use Rattle.std.specs.Prelude.{◌≡◌, ◌<◌, ◌≤◌, ◌+◌, ◌++◌, length, vec_len, IfErr, IfOk, OnOk};
+ghost use Rattle.path_delays.specs.Vocabulary.{option_to_list, Tech, HasReach, AreAllReached, ListsCaptures, IsCapturingOf, registers_of, ListsPairsBefore, ShowsTooMany, MeetsLimit, pair_limit};
 
 use crate::PairFault;
-use crate::capturing::{Capture, Capturing, list_captures};
+use crate::capturing::{CaptureList, Capturing, list_captures};
 use crate::lanes::Lane;
-use crate::pair::{captured_sums, joined_pair};
+use crate::pair::joined_pair;
 use crate::path_search::Paths;
 use crate::walk::Walk;
 use cts_model::{Circuit, PairDelay};
@@ -43,11 +43,11 @@ impl Paths<'_> {
         capturing.gather(&self.walk)?;
         let registers = capturing.registers.as_slice();
         list_captures(&mut capturing.captures, &self.walk, self.circuit, registers)?;
-        let captures = capturing.captures.as_slice();
         for from in first..end {
             let lane = Lane {
                 number: from - first,
             };
+            let captures = &capturing.captures;
             push_pairs_from(pairs, &self.walk, captures, self.circuit, lane, from as u32)?;
         }
         Ok(end)
@@ -59,13 +59,13 @@ impl Paths<'_> {
 fn push_pairs_from(
     pairs: &mut PairList,
     walk: &Walk,
-    captures: &[Capture],
+    captures: &CaptureList,
     circuit: &Circuit,
     lane: Lane,
     from: u32,
 ) -> Result<(), PairFault>
-    requires registers { AreAllReached circuit.now from (registers_of captures.now) }
-    requires captures { All (IsCapture circuit.now walk.now) captures.now }
+    requires registers { AreAllReached circuit.now from (registers_of captures.now.list.items) }
+    requires captures { ListsCaptures circuit.now walk.now captures.now }
     ensures listed { OnOk result ((tech : Tech)
         → HasReach circuit.now tech from lane.number walk.now
         → ListsPairsBefore circuit.now tech from 0 pairs.old.list.items
@@ -75,46 +75,14 @@ fn push_pairs_from(
         → ListsPairsBefore circuit.now tech from 0 pairs.old.list.items
         → ShowsTooMany circuit.now fault) }
 {
-    for capture in captures {
+    for capture in captures.list.as_slice() {
         if !capture.lanes[lane.number] {
             continue;
         }
-        push_found(pairs, walk, circuit, lane, from, capture)?;
+        let found = captures.sums(walk, lane, capture);
+        push_joined(pairs, joined_pair(from, capture.register, found))?;
     }
     Ok(())
-}
-
-// Appends the pair of the register in a lane and another one, of which a walk found this, if there
-// is one.
-fn push_found(
-    pairs: &mut PairList,
-    walk: &Walk,
-    circuit: &Circuit,
-    lane: Lane,
-    from: u32,
-    capture: &Capture,
-) -> Result<(), PairFault>
-    requires { IsCapture circuit.now walk.now capture.now }
-    ensures listed { OnOk result ((tech : Tech)
-        → HasReach circuit.now tech from lane.number walk.now
-        → ListsPairsBefore circuit.now tech from capture.now.register pairs.old.list.items
-        → ListsPairsBefore circuit.now tech from (capture.now.register + 1) pairs.new.list.items) }
-    ensures many { IfErr result (λ fault. (tech : Tech)
-        → HasReach circuit.now tech from lane.number walk.now
-        → ListsPairsBefore circuit.now tech from capture.now.register pairs.old.list.items
-        → ShowsTooMany circuit.now fault) }
-{
-    let to = capture.register;
-    match capture.single {
-        Some(signal) => push_joined(pairs, joined_pair(from, to, walk.held_sums(lane, signal))),
-        None => {
-            let captured = circuit.register_signal(to as usize).fan_in.as_slice();
-            push_joined(
-                pairs,
-                joined_pair(from, to, captured_sums(walk, lane, captured)),
-            )
-        }
-    }
 }
 
 // Appends a pair, if there is one.

@@ -1,7 +1,7 @@
 ghost use Rattle.std.specs.Prelude.{◌≡◌, ◌<◌, ◌≤◌, ◌+◌, ◌-◌, ℕ, false, None, All, IfOk, IsTrue, length, slice_index_or};
-ghost use Rattle.path_delays.specs.Vocabulary.{IsLevelsOf, has_number, HasReach, HaveReachBetween, IsRoomFor, sums_to, IsNetworkOf, HasReachRoom, HaveReachedUpTo, IsCleared, IsSpreadBelow};
+ghost use Rattle.path_delays.specs.Vocabulary.{AreMerged, IsBounded, IsLevelsOf, has_number, HasReach, HaveReachBetween, IsRoomFor, sums_to, IsNetworkOf, HasReachRoom, HaveReachedUpTo, IsCleared, IsSpreadBelow};
 
-use crate::lanes::{Block, LANES, Lane, block_end};
+use crate::lanes::{Block, LANES, Lane, LaneSums, block_end};
 use crate::launching::{launched, start_sums};
 use crate::network::Network;
 use crate::number_set::NumberSet;
@@ -66,6 +66,7 @@ impl Walk {
         ensures few { result ≤ first + 16 }
         ensures reach { (from : ℕ) → first ≤ from → from < result
             → HasReach circuit.now tech.now from (from - first) self.new }
+        ensures bounded { IsBounded self.new.reach }
     {
         let end = block_end(first, circuit.registers.len());
         let mut registers = [0; LANES];
@@ -133,6 +134,14 @@ impl Walk {
         self.reach.lanes.sums(signal as usize, lane)
     }
 
+    /// In each lane the least and the greatest of the sums to some signals.
+    pub(crate) fn merged_sums(&self, signals: &[u32]) -> LaneSums
+        requires { IsBounded self.now.reach }
+        ensures { AreMerged self.now signals.now result }
+    {
+        self.reach.lanes.merged(&self.reach.reached, signals)
+    }
+
     /// False only in lanes whose register doesn't reach the signal.
     pub(crate) fn lanes_to(&self, signal: u32) -> [bool; 16]
         ensures { (lane : ℕ) → lane < 16 → slice_index_or result lane false ≡ false
@@ -151,6 +160,7 @@ impl Reach {
         ensures reach { HaveReachedUpTo from.now.circuit.now from.now.tech.now network.now
             from.now.registers.now top self.new }
         ensures room { HasReachRoom network.now self.new }
+        ensures bounded { IsBounded self.new }
     {
         self.clear();
         self.launch_all(network, from);

@@ -3,8 +3,8 @@ use Rattle.path_delays.proofs.Vocabulary.{◌-◌, arith, rules, Capturing}
 use Rattle.path_delays.proofs.CapturingLemmas.{capturing_same, gathered_from}
 use Rattle.path_delays.proofs.path_search.Paths.push_block.Goals as goal
 
-pub list_captures-requires : goal.list_captures-requires
-list_captures-requires c =
+pub list_captures-requires-clause-within : goal.list_captures-requires-clause-within
+list_captures-requires-clause-within c =
     let from = c.args.first in
     rw c.as_slice-registers.ensures.value (gathered_from c.self.inside.circuit.now
     c.self.inside.tech.now from (from - from) c.walk_block-end.new.self c.args.capturing.now
@@ -17,7 +17,6 @@ pub push_pairs_from-requires-clause-registers : goal.push_pairs_from-requires-cl
 push_pairs_from-requires-clause-registers c =
     let from = c.loop-from.from in
     rw (
-      c.as_slice-captures.ensures.value,
       c.in_ok-list_captures.ensures.registers,
       c.as_slice-registers.ensures.value,
     )

@@ -1,5 +1,5 @@
 -- The gate of the lowest rank that waits hands on its sums.
-use Rattle.path_delays.proofs.Vocabulary.{◌≡◌, ◌+◌, ◌∙◌, ℕ, length, refl, sym, arith, rules, true≢false, slice_get_within, Reach, lanes_at, rank_at, LanesBelow}
+use Rattle.path_delays.proofs.Vocabulary.{◌≡◌, ◌+◌, ◌∙◌, ℕ, length, refl, sym, arith, rules, true≢false, slice_get_within, Reach, lanes_at, rank_at, AllBelow, LanesBelow}
 use Rattle.path_delays.proofs.Hands.{HasReachRoom-same}
 use Rattle.path_delays.proofs.LaneLemmas.{some_is}
 use Rattle.path_delays.proofs.WalkEnds.{reach_shown}
@@ -64,6 +64,14 @@ returns-then-next-top-clause-reach c lane from signal here below =
     (λ other waits. omega (arith, c.if-next-top.true, c.in-Some.ensures.some.lowest other waits))
     signal below
 
+pub returns-then-next-top-clause-bounded : goal.returns-then-next-top-clause-bounded
+returns-then-next-top-clause-bounded c =
+    all_bounded c.args.from.now.circuit.now c.args.from.now.tech.now c.args.network.now
+    c.requires.network c.args.from.now.registers.now
+    (LanesBelow (length c.args.from.now.registers.now)) c.loop-next.self c.loop-next.rank
+    (AllBelow c.args.network.now c.loop-next.rank) c.loop-next.invariant.room
+    c.loop-next.invariant.spread
+
 pub returns : goal.returns
 returns c =
     let registers = c.args.from.now.registers.now in
@@ -88,4 +96,8 @@ returns c =
             limit = refl;
           })
           c.loop-next.invariant.room;
+      bounded = all_bounded c.args.from.now.circuit.now c.args.from.now.tech.now
+          c.args.network.now c.requires.network registers (LanesBelow (length registers))
+          c.loop-next.self c.loop-next.rank (AllBelow c.args.network.now c.loop-next.rank)
+          c.loop-next.invariant.room c.loop-next.invariant.spread;
     }
