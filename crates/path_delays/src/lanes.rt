@@ -67,6 +67,9 @@ impl Row for Lanes {
         }
     }
 
+    // Within the step over a gate this becomes a few instructions for all lanes; a call of its own
+    // takes them one by one.
+    #[inline(always)]
     fn merge(&mut self, other: &Lanes) {
         for lane in 0..LANES {
             self.sums[lane] = self.sums[lane].merged(other.sums[lane]);

@@ -115,6 +115,9 @@ impl Row for NarrowLanes {
         }
     }
 
+    // Within the step over a gate this becomes a few instructions for all lanes; a call of its own
+    // takes them one by one.
+    #[inline(always)]
     fn merge(&mut self, other: &NarrowLanes) {
         for lane in 0..LANES {
             self.least[lane] = self.least[lane].lesser(other.least[lane]);
