@@ -33,12 +33,12 @@ take_set {X} {all} {place} count items item low is =
     ap (take count) is ∙ take-set-lt count items place item low
 
 -- once nothing is settled, nothing of what counts is
-pub take_unsettled : {all : List Bool} {n : ℕ} (count : ℕ) (items : List Bool) → n ≡ length items
-    → count ≤ length items → all ≡ replicate n false
-    → take count all ≡ replicate (length (take count items)) false
-take_unsettled {all} {n} count items same fewer is =
-    ap (take count) is ∙ take-replicate count n false (omega (arith, same, fewer))
-    ∙ ap (λ m. replicate m false) (sym (length-take-le count items fewer))
+pub take_unsettled : {all : List Bool} (count : ℕ) (nodes : List Bool) → count ≤ length nodes
+    → all ≡ replicate (length nodes) false
+    → take count all ≡ replicate (length (take count nodes)) false
+take_unsettled {all} count nodes fewer is =
+    ap (take count) is ∙ take-replicate count (length nodes) false fewer
+    ∙ ap (λ n. replicate n false) (sym (length-take-le count nodes fewer))
 
 -- the state of such lists is fit
 pub fit_state : (work : Inside) → HasEntries work → IsFit (state_of work)

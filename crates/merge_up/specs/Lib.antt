@@ -1,5 +1,6 @@
 pub mod Distances
 pub mod Merging
+pub mod SettledNodes
 pub mod Sides
 pub mod Views
 pub mod Vocabulary

@@ -60,6 +60,17 @@ abbrev pub KeepsEnds : List Sink → List Merge → WorkState → (place : ℕ) 
 KeepsEnds sinks merges work place = IsSomeAnd (slice_get work.ends place)
     (AreEnds sinks (numbers_below (length sinks) merges (length sinks + place)))
 
+-- beside each merge its furthest sinks are kept
+abbrev pub KeepsAllEnds : List Sink → List Merge → WorkState → Type 0
+KeepsAllEnds sinks merges work = (place : ℕ) → place < length merges
+    → KeepsEnds sinks merges work place
+
+-- and so beside those of the two nodes that this merge joins which are merges
+abbrev pub KeepsJoined : List Sink → List Merge → WorkState → (node : ℕ) → Type 0
+KeepsJoined sinks merges work node = (merge : Merge) (place : ℕ)
+    → slice_get merges (node - length sinks) ≡ Some merge → Joins merge (length sinks + place)
+    → KeepsEnds sinks merges work place
+
 -- nothing is settled
 abbrev pub IsUnsettled : WorkState → Type 0
 IsUnsettled work = All IsFalse work.settled

@@ -21,7 +21,7 @@ state_of work = record {
   regions = work.regions;
   ends = work.ends;
   shows = take work.sinks work.shows;
-  settled = take (2 * work.sinks) work.settled.items;
+  settled = take (2 * work.sinks) work.settled;
   renewals = work.renewals;
 }
 
@@ -35,5 +35,5 @@ pub record HasEntries (work : Inside) : Type 0 where
   pub lengths : length work.tree.length + 1 ≡ 2 * length work.shows
   pub regions : length work.regions + 1 ≡ 2 * length work.shows
   pub ends : length work.ends + 1 ≡ length work.shows
-  pub settled : length work.settled.items ≡ 2 * length work.shows
+  pub settled : length work.settled ≡ 2 * length work.shows
   pub renewals : work.renewals < 2 ^ 64

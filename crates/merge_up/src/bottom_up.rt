@@ -1,7 +1,6 @@
 ghost use Rattle.std.specs.Prelude.{◌≡◌, ◌≤◌, ◌+◌, ◌-◌, ◌^◌, min, length};
-ghost use Rattle.merge_up.specs.Vocabulary.{AreTreeSinks, IsTopology, HoldsSinks, IsFit, IsMerged, IsUnsettled};
+ghost use Rattle.merge_up.specs.Vocabulary.{AreTreeSinks, IsTopology, HoldsSinks, IsFit, IsMerged, IsUnsettled, KeepsAllEnds};
 
-use crate::nodes::Nodes;
 use crate::work::Work;
 use cts_model::{Sink, Topology};
 
@@ -12,23 +11,15 @@ pub fn merge(work: &mut Work, sinks: &[Sink], topology: &Topology)
     requires topology { IsTopology (length sinks.now) topology.now.merges }
     requires room { length sinks.now ≤ work.old.room }
     ensures merged { IsMerged sinks.now topology.now.merges work.new }
+    ensures kept { KeepsAllEnds sinks.now topology.now.merges work.new }
     ensures room { work.new.room ≡ work.old.room }
     ensures settled { IsUnsettled work.new }
     ensures renewals { work.new.renewals
         ≡ min (work.old.renewals + length topology.now.merges) (2 ^ 64 - 1) }
 {
     set_sinks(work, sinks);
-    let merges = topology.merges.as_slice();
-    for place in 0..merges.len() {
-        let nodes = Nodes {
-            sinks,
-            merges,
-            work,
-        };
-        let merge = merges[place];
-        let first = nodes.kept_ends(merge.first);
-        let second = nodes.kept_ends(merge.second);
-        work.hold(place, first.joined(second));
+    for place in 0..topology.merges.len() {
+        work.renew_from_kept(sinks, topology, (sinks.len() + place) as u32);
     }
 }
 

@@ -5,6 +5,7 @@ mod bottom_up;
 mod end;
 mod ends;
 mod nodes;
+mod settled;
 mod side;
 mod work;
 

@@ -2,6 +2,7 @@ ghost use Rattle.std.specs.Prelude.{◌≡◌, ◌≤◌, ◌<◌, ◌+◌, ◌*
 
 use crate::ends::Ends;
 use crate::nodes::Nodes;
+use crate::settled::Settled;
 use cts_base::{Listed, NoMemory};
 use cts_model::{Point, Show, Sink, Topology, Tree, Uv};
 use std::alloc::Global;
@@ -22,8 +23,7 @@ pub struct Work {
     ends: Listed<Ends>,
     // Of each merge, and then the source's.
     shows: Listed<Show>,
-    // Whether each node has its place.
-    settled: Vec<bool>,
+    settled: Settled,
     renewals: u64,
 }
 
@@ -40,7 +40,7 @@ impl Model for Work {
 }
 
 impl Work {
-    ghost use Rattle.merge_up.specs.Vocabulary.{Point, Sink, Merge, IsUvBelow, IsUvMultipleOf, AreTreeSinks, IsTreeSink, IsTopology, numbers_below, Holds, HoldsJoined, IsFresh, IsRenewed, IsSinkSet, IsNodeSettled, IsSourcePlaced, AreEnds, cut, IsFit, IsSettled};
+    ghost use Rattle.merge_up.specs.Vocabulary.{Point, Sink, Merge, IsUvBelow, IsUvMultipleOf, AreTreeSinks, IsTreeSink, IsTopology, numbers_below, Holds, HoldsJoined, KeepsJoined, IsFresh, IsRenewed, IsSinkSet, IsNodeSettled, IsSourcePlaced, AreEnds, cut, IsFit, IsSettled};
 
     /// Room for that many sinks. No later call takes memory.
     ///
@@ -62,8 +62,8 @@ impl Work {
             regions: Listed::from_vec(vec![in alloc; Rect::point(origin); 2 * sinks - 1]?),
             ends: Listed::from_vec(vec![in alloc; Ends::of(0, sink); sinks - 1]?),
             shows: Listed::from_vec(vec![in alloc; Show::Root; sinks]?),
-            settled: vec![in alloc; false; 2 * sinks]?,
             tree: tree_with_room(alloc, 2 * sinks)?,
+            settled: Settled::with_room(alloc, 2 * sinks)?,
             renewals: 0,
         })
     }
@@ -113,7 +113,7 @@ impl Work {
         let node = node as usize;
         self.tree.place.set(node, to_point(at));
         self.tree.length.set(node, length);
-        self.settled[node] = true;
+        self.settled.settle(node);
     }
 
     /// Gives the source its place, its reach and what shows it. It takes no memory.
@@ -127,7 +127,7 @@ impl Work {
         self.tree.place.set(source, to_point(at));
         self.tree.reach.set(source, reach);
         self.shows.set(self.sinks - 1, show);
-        self.settled[source] = true;
+        self.settled.settle(source);
     }
 
     /// The tree. Where there is room for more sinks than the last merge had, its lists go on after
@@ -164,7 +164,7 @@ impl Work {
         let register = register as usize;
         self.tree.reach.set(register, sink.offset);
         self.regions.set(register, Rect::point(sink.at));
-        self.settled.fill(false);
+        self.settled.forget();
     }
 
     /// Makes a merge's reach, region and show anew from those of the two nodes that it joins. It
@@ -193,8 +193,33 @@ impl Work {
         self.hold(place, first.joined(second));
     }
 
-    /// Holds of a merge what its furthest sinks say.
-    pub(crate) fn hold(&mut self, place: usize, ends: Ends)
+    /// Makes a merge anew as `renew` does, by the sinks that are kept as the furthest below the two
+    /// nodes that it joins. It takes the same time whatever hangs below them, and no memory.
+    pub fn renew_from_kept(&mut self, sinks: &[Sink], topology: &Topology, node: u32)
+        requires sinks { AreTreeSinks sinks.now }
+        requires topology { IsTopology (length sinks.now) topology.now.merges }
+        requires count { self.old.sinks ≡ length sinks.now }
+        requires merge { length sinks.now ≤ node }
+        requires made { node < length sinks.now + length topology.now.merges }
+        requires kept { KeepsJoined sinks.now topology.now.merges self.old node }
+        ensures { IsRenewed sinks.now topology.now.merges (node - length sinks.now)
+            self.old self.new }
+    {
+        let place = node as usize - sinks.len();
+        let merges = topology.merges.as_slice();
+        let nodes = Nodes {
+            sinks,
+            merges,
+            work: self,
+        };
+        let merge = merges[place];
+        let first = nodes.kept_ends(merge.first);
+        let second = nodes.kept_ends(merge.second);
+        self.hold(place, first.joined(second));
+    }
+
+    // Holds of a merge what its furthest sinks say.
+    fn hold(&mut self, place: usize, ends: Ends)
         requires { place + 1 < self.old.sinks }
         ensures { (sinks : List Sink) (merges : List Merge) → self.old.sinks ≡ length sinks
             → AreEnds sinks (numbers_below (length sinks) merges (length sinks + place)) ends
@@ -206,7 +231,7 @@ impl Work {
         self.regions.set(node, region);
         self.ends.set(place, ends);
         self.shows.set(place, ends.show());
-        self.settled.fill(false);
+        self.settled.forget();
         self.renewals = self.renewals.saturating_add(1);
     }
 

@@ -1,5 +1,5 @@
 -- The walk over the merges from a sink up to the root.
-use Rattle.move_session.proofs.Vocabulary.{◌≡◌, inl, inr, ℕ, zero, ◌+◌, ◌-◌, ◌^◌, ◌<◌, ◌≤◌, min, true, false, List, [], length, take, get_or, Some, slice_get, refl, sym, ap, subst, ◌∙◌, arith, Contains, count_by, range_with_len, get_or-take, length-take, take_all, Sink, Merge, IsLive, IsMerge, IsTopology, Joins, numbers_below, merge_at, merge_here, numbers_below-sink, HoldsMerge, HoldsSinks, IsRenewed, IsFit, WorkState, merges_renewed, sinks_renewed, IsMergedBeside, IsStep, JoinsAt, is_above, merges_above}
+use Rattle.move_session.proofs.Vocabulary.{◌≡◌, ◌≢◌, inl, inr, ℕ, zero, ◌+◌, ◌-◌, ◌^◌, ◌<◌, ◌≤◌, min, true, false, List, [], length, take, get_or, Some, slice_get, refl, sym, ap, subst, ◌∙◌, arith, Contains, count_by, range_with_len, get_or-take, length-take, take_all, Sink, Merge, IsLive, IsMerge, IsTopology, Joins, numbers_below, merge_at, merge_here, numbers_below-sink, HoldsSinks, HoldsWithEnds, IsRenewed, IsFit, WorkState, ends_renewed, merges_renewed, sinks_renewed, IsMergedBeside, IsStep, JoinsAt, is_above, merges_above}
 use Rattle.std.specs.Cmp.{nat_eq_equiv}
 use Rattle.std.proofs.lemmas.Bool.{cases_eq, cases_lt, eqb-true, false_from_ne_true}
 use Rattle.std.proofs.lemmas.List.FromFn.{get_or-range_with_len, length-range_with_len}
@@ -24,7 +24,8 @@ module _ (sinks : List Sink) (merges : List Merge) (register : ℕ) where
     pub room : work.room ≡ old.room
     pub of_sinks : HoldsSinks sinks work
     pub of_merges : (lower : ℕ) → lower < length merges
-        → (place ≤ lower → Below (length sinks + lower) → ⊥) → HoldsMerge sinks merges work lower
+        → (place ≤ lower → Below (length sinks + lower) → ⊥)
+        → HoldsWithEnds sinks merges work lower
     pub below : Below node
     pub one : (other : ℕ) → IsLive (length sinks) (take place merges) other → Below other
         → other ≡ node
@@ -159,8 +160,12 @@ module _ (sinks : List Sink) (merges : List Merge) (register : ℕ) where
           count = ap (λ work. work.sinks) is.rest ∙ way.count;
           room = ap (λ work. work.room) is.rest ∙ way.room;
           of_sinks = sinks_renewed is way.of_sinks;
-          of_merges = λ lower made beyond. merges_renewed is lower
-              (λ apart. way.of_merges lower made (λ past. beyond (omega (arith, past, apart))));
+          of_merges = λ lower made beyond.
+              let held : (lower ≢ place) → HoldsWithEnds sinks merges work lower =
+              λ apart. way.of_merges lower made (λ past. beyond (omega (arith, past, apart))) in (
+                merges_renewed is lower (λ apart. (held apart).0),
+                ends_renewed is lower (λ apart. (held apart).1),
+              );
           below = above_joined node way.below joined;
           one = λ other live below. elim (cases_lt other (length sinks + place)) [
             | inl low ↦ absurd (live_apart other live (subst (Joins (merge_at merges place))

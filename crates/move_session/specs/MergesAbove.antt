@@ -5,7 +5,7 @@ use Rattle.std.specs.List.{count_by, list_any, range_with_len}
 use Rattle.cts_model.specs.declared.place.Sink.{Sink}
 use Rattle.cts_model.specs.declared.tree.Merge.{Merge}
 use Rattle.cts_model.specs.Vocabulary.{Joins, numbers_below}
-use Rattle.merge_up.specs.Merging.{HoldsMerge, HoldsSinks, IsRenewed}
+use Rattle.merge_up.specs.Merging.{HoldsMerge, HoldsSinks, IsRenewed, KeepsEnds}
 use Rattle.merge_up.specs.Works.{WorkState}
 
 -- the merge at that place has the sink below it
@@ -18,14 +18,20 @@ abbrev pub merges_above : (sinks : ℕ) → List Merge → (register : ℕ) → 
 merges_above sinks merges register =
     count_by (is_above sinks merges register) (range_with_len 0 (length merges))
 
--- the work holds all the sinks, and each merge that doesn't have this one below it
+-- the merge at that place is held, and its furthest sinks are kept beside it
+abbrev pub HoldsWithEnds : List Sink → List Merge → WorkState → (place : ℕ) → Type 0
+HoldsWithEnds sinks merges work place =
+    HoldsMerge sinks merges work place × KeepsEnds sinks merges work place
+
+-- the work holds all the sinks, and each merge with its furthest sinks that doesn't have this sink
+-- below it
 pub record IsMergedBeside (sinks : List Sink) (merges : List Merge) (register : ℕ)
     (work : WorkState) : Type 0 where
   pub count : work.sinks ≡ length sinks
   pub of_sinks : HoldsSinks sinks work
   pub of_merges : (place : ℕ) → place < length merges
       → (Contains (numbers_below (length sinks) merges (length sinks + place)) register → ⊥)
-      → HoldsMerge sinks merges work place
+      → HoldsWithEnds sinks merges work place
 
 -- the merge at that place joins the node
 abbrev pub JoinsAt : List Merge → (place node : ℕ) → Type 0

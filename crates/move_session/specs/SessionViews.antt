@@ -1,7 +1,7 @@
 -- The fields of a session as its state.
 use Rattle.std.specs.Prelude.{◌≡◌, length}
 use Rattle.cts_model.specs.Vocabulary.{AreTreeSinks, IsTopology}
-use Rattle.merge_up.specs.Merging.{IsMerged}
+use Rattle.merge_up.specs.Merging.{IsMerged, KeepsAllEnds}
 use Rattle.merge_up.specs.Works.{IsFit, IsSettled}
 use Rattle.move_session.specs.Sessions.{SessionState}
 use Rattle.move_session.specs.declared.session.Session.TheInside.{Inside}
@@ -26,6 +26,7 @@ pub record IsUpToDate (session : Inside) : Type 0 where
   pub room : session.work.room ≡ length session.sinks
   pub fit : IsFit session.work
   pub merged : IsMerged session.sinks session.topology.merges session.work
+  pub kept : KeepsAllEnds session.sinks session.topology.merges session.work
   pub placed : IsPlacedTree session.sinks session.topology.merges session.source
       session.work.tree session.work.shows
   pub numbers : HasTreeNumbers session.work.tree

@@ -1,5 +1,5 @@
 ghost use Rattle.std.specs.Prelude.{◌≡◌, ◌<◌, ◌+◌, ◌-◌, ◌^◌, min, length};
-ghost use Rattle.move_session.specs.Vocabulary.{AreTreeSinks, IsTopology, HoldsJoined, IsMerged, IsFit, IsMergedBeside, IsStep, merges_above};
+ghost use Rattle.move_session.specs.Vocabulary.{AreTreeSinks, IsTopology, IsMerged, KeepsAllEnds, KeepsJoined, IsFit, IsMergedBeside, IsStep, merges_above};
 
 use cts_model::{Sink, Topology};
 use merge_up::Work;
@@ -13,6 +13,7 @@ pub(crate) fn renew_above(work: &mut Work, sinks: &[Sink], topology: &Topology, 
     requires fit { IsFit work.old }
     requires beside { IsMergedBeside sinks.now topology.now.merges register work.old }
     ensures merged { IsMerged sinks.now topology.now.merges work.new }
+    ensures kept { KeepsAllEnds sinks.now topology.now.merges work.new }
     ensures room { work.new.room ≡ work.old.room }
     ensures renewals { work.new.renewals ≡ min (work.old.renewals
         + merges_above (length sinks.now) topology.now.merges register) (2 ^ 64 - 1) }
@@ -35,7 +36,7 @@ fn renew_joining(
     requires topology { IsTopology (length sinks.now) topology.now.merges }
     requires count { work.old.sinks ≡ length sinks.now }
     requires within { place < length topology.now.merges }
-    requires joined { HoldsJoined sinks.now topology.now.merges work.old
+    requires kept { KeepsJoined sinks.now topology.now.merges work.old
         (length sinks.now + place) }
     ensures { IsStep sinks.now topology.now.merges place node work.old work.new result }
 {
@@ -44,6 +45,6 @@ fn renew_joining(
         return node;
     }
     let parent = (sinks.len() + place) as u32;
-    work.renew(sinks, topology, parent);
+    work.renew_from_kept(sinks, topology, parent);
     parent
 }

@@ -16,7 +16,7 @@ returns c =
     let same : (length sinks + place) - length sinks ≡ place = omega arith in
     inl (record {
       joins = joins;
-      renewed = subst (λ n. IsRenewed sinks merges n c.args.work.now c.renew.new.self) same
-          c.renew.ensures;
+      renewed = subst (λ n. IsRenewed sinks merges n c.args.work.now
+          c.renew_from_kept.new.self) same c.renew_from_kept.ensures;
       up = refl;
     })

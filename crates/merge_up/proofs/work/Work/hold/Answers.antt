@@ -1,4 +1,4 @@
-use Rattle.merge_up.proofs.Vocabulary.{◌≡◌, ◌∙◌, ◌+◌, ◌*◌, ◌<◌, take, ap, length, slice_set, rules, arith, to_z-of_z, length-set, w128, numbers_below, cut, state_of}
+use Rattle.merge_up.proofs.Vocabulary.{◌≡◌, ◌∙◌, ◌+◌, ◌*◌, ◌<◌, take, ap, length, slice_set, rules, arith, to_z-of_z, length-set, length-replicate, w128, numbers_below, cut, state_of}
 use Rattle.merge_up.proofs.WorkLemmas.{fit_state, renewed_by, take_set, take_unsettled}
 use Rattle.merge_up.proofs.work.Work.hold.Goals as goal
 
@@ -13,7 +13,8 @@ invariant_of-self c =
     let ends = ap length c.set-3.ensures ∙ length-set work.ends place _ in
     let shows = ap length c.set-4.ensures ∙ length-set work.shows place _ in
     let added = c.saturating_add-self-inside.ensures in
-    search (rules, reaches, regions, ends, shows, c.fill.ensures.len, added, has)
+    let settled = ap length c.forget.ensures ∙ length-replicate _ _ in
+    search (rules, reaches, regions, ends, shows, settled, added, has)
 
 pub returns : goal.returns
 returns c = λ sinks merges same are.
@@ -39,8 +40,7 @@ returns c = λ sinks merges same are.
       regions = regions i;
       ends = c.set-3.ensures i;
       shows = take_set work.sinks work.shows c.show.result (omega (arith, low)) c.set-4.ensures i;
-      settled = take_unsettled (2 * work.sinks) work.settled.items (omega
-          (arith, work.settled.ok.0)) (omega (arith, has)) (c.fill.ensures.items (λ y same. same))
+      settled = take_unsettled (2 * work.sinks) work.settled (omega (arith, has)) c.forget.ensures
           i;
       renewals = c.saturating_add-self-inside.ensures i;
     })

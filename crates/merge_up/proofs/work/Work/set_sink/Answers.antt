@@ -1,4 +1,4 @@
-use Rattle.merge_up.proofs.Vocabulary.{◌<◌, ◌*◌, ◌∙◌, ap, length, slice_set, rules, arith, to_z-of_z, length-set, w128, cut, state_of}
+use Rattle.merge_up.proofs.Vocabulary.{◌<◌, ◌*◌, ◌∙◌, ap, length, slice_set, rules, arith, to_z-of_z, length-set, length-replicate, w128, cut, state_of}
 use Rattle.merge_up.proofs.WorkLemmas.{fit_state, take_set, take_unsettled}
 use Rattle.merge_up.proofs.work.Work.set_sink.Goals as goal
 
@@ -8,7 +8,8 @@ invariant_of-self c =
     let has = c.self.invariant in
     let reaches = ap length c.set.ensures ∙ length-set work.tree.reach c.args.register _ in
     let regions = ap length c.set-2.ensures ∙ length-set work.regions c.args.register _ in
-    search (rules, reaches, regions, c.fill.ensures.len, has)
+    let settled = ap length c.forget.ensures ∙ length-replicate _ _ in
+    search (rules, reaches, regions, settled, has)
 
 pub returns : goal.returns
 returns c =
@@ -29,8 +30,7 @@ returns c =
               (arith, low)) reach i;
         };
         regions = c.set-2.ensures i;
-        settled = take_unsettled (2 * work.sinks) work.settled.items (omega
-            (arith, work.settled.ok.0)) (omega (arith, has)) (c.fill.ensures.items (λ y same. same))
-            i;
+        settled = take_unsettled (2 * work.sinks) work.settled (omega (arith, has))
+            c.forget.ensures i;
       });
     }

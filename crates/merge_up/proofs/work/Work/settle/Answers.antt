@@ -1,4 +1,4 @@
-use Rattle.merge_up.proofs.Vocabulary.{◌<◌, ◌*◌, ◌-◌, ◌∙◌, ap, length, true, slice_set, rules, arith, to_z-of_z, length-set, take-set-lt, w128, placed_as, state_of}
+use Rattle.merge_up.proofs.Vocabulary.{◌<◌, ◌*◌, ◌-◌, ◌∙◌, ap, length, true, slice_set, rules, arith, to_z-of_z, length-set, w128, placed_as, state_of}
 use Rattle.merge_up.proofs.WorkLemmas.{fit_state, take_set}
 use Rattle.merge_up.proofs.work.Work.settle.Goals as goal
 
@@ -9,7 +9,7 @@ invariant_of-self c =
     let node = c.args.node in
     let places = ap length c.set.ensures ∙ length-set work.tree.place node _ in
     let lengths = ap length c.set-2.ensures ∙ length-set work.tree.length node _ in
-    search (rules, places, lengths, length-set work.settled.items node true, has)
+    search (rules, places, lengths, ap length c.settle.ensures ∙ length-set work.settled node true, has)
 
 pub returns : goal.returns
 returns c =
@@ -25,6 +25,6 @@ returns c =
       rest = rw (← c.self.view_is) (λ i. placed_as
           (take_set (2 * work.sinks) work.tree.place _ (omega (arith, low)) c.set.ensures i)
           (take_set (2 * work.sinks - 1) work.tree.length c.args.length low long i)
-          (take-set-lt (2 * work.sinks) work.settled.items node true (omega (arith, low)) i)
+          (take_set (2 * work.sinks) work.settled true (omega (arith, low)) c.settle.ensures i)
           (state_of work));
     }

@@ -1,4 +1,4 @@
-use Rattle.merge_up.proofs.Vocabulary.{◌<◌, ◌≤◌, ◌*◌, ◌-◌, ◌∙◌, ap, length, true, slice_set, rules, arith, to_z-of_z, length-set, take-set-lt, w128, cut, state_of}
+use Rattle.merge_up.proofs.Vocabulary.{◌<◌, ◌≤◌, ◌*◌, ◌-◌, ◌∙◌, ap, length, true, slice_set, rules, arith, to_z-of_z, length-set, w128, cut, state_of}
 use Rattle.merge_up.proofs.WorkLemmas.{fit_state, take_set}
 use Rattle.merge_up.proofs.work.Work.settle_source.Goals as goal
 
@@ -10,7 +10,7 @@ invariant_of-self c =
     let shows = ap length c.set-3.ensures ∙ length-set work.shows (work.sinks - 1) c.args.show in
     let reaches = ap length c.set-2.ensures ∙ length-set work.tree.reach source _ in
     let places = ap length c.set.ensures ∙ length-set work.tree.place source _ in
-    search (rules, shows, reaches, places, length-set work.settled.items source true, has)
+    search (rules, shows, reaches, places, ap length c.settle.ensures ∙ length-set work.settled source true, has)
 
 pub returns : goal.returns
 returns c =
@@ -32,6 +32,6 @@ returns c =
           place = take_set (2 * work.sinks) work.tree.place _ low c.set.ensures i;
         };
         shows = take_set work.sinks work.shows c.args.show (omega (arith, some)) c.set-3.ensures i;
-        settled = take-set-lt (2 * work.sinks) work.settled.items source true low i;
+        settled = take_set (2 * work.sinks) work.settled true low c.settle.ensures i;
       });
     }

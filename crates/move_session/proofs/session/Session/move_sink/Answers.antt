@@ -20,7 +20,7 @@ renew_above-requires-clause-beside c = rw (c.as_slice-sinks.ensures, c.set.ensur
     (moved_beside c.self.inside.sinks c.self.inside.topology.merges c.args.register
     c.moved_sink-sink.result c.self.inside.work c.set_sink.new.self
     (rw (← c.self.view_is) at c.requires.register) c.self.invariant.fit c.self.invariant.merged
-    c.set_sink.ensures)
+    c.self.invariant.kept c.set_sink.ensures)
 
 pub place-requires-clause-sinks : goal.place-requires-clause-sinks
 place-requires-clause-sinks c = rw c.as_slice-sinks.ensures
@@ -40,6 +40,8 @@ invariant_of-self c =
           ∙ ap (λ work. work.room) c.set_sink.ensures.rest ∙ held.room ∙ sym all;
       fit = c.place.ensures.fit;
       merged = rw sinks_are at c.place.ensures.merged;
+      kept = rw (ap (λ work. work.ends) c.place.ensures.stays.rest)
+          (rw sinks_are at c.renew_above.ensures.kept);
       placed = rw sinks_are at c.place.ensures.tree;
       numbers = c.place.ensures.numbers;
       settled = c.place.ensures.settled;
