@@ -1,5 +1,6 @@
 -- The furthest sinks of a set to the four sides, and what they say of its reach and its shows.
 use Rattle.merge_up.proofs.Vocabulary.{◌≡◌, ℕ, ◌≤◌, inl, inr, min, max, List, [], ◌∷◌, ◌++◌, Contains, Some, slice_get, filter_map, ℤ, ◌+ℤ◌, ◌-ℤ◌, neg_ℤ, ◌≤ℤ◌, refl, ◌*◌, ◌^◌, sym, subst, ◌∙◌, arith, ints, clamps, to_z-of_z, Contains-append_left, Contains-append_right, filter_map-append, int_max, w128, kept, difference_read, Sink, cases_lt, ShowsMerge, sinks_of_u_show, sinks_of_v_show, span_is_symmetric, spread_is_reach, found_among, some_and, Extremes, IsExtremes, IsGreatest, IsLeastOf, HasExtremeSides, spread, u_below, v_below, Rect, End, Ends, IsEnd, AreEnds, extremes_of, pair_of, u_back, v_back}
+use Rattle.std.proofs.Math.Nat.{max-eq_left, max-eq_right, min-eq_left, min-eq_right}
 use Rattle.tilted_rect.specs.Corners.{IsSide}
 use Rattle.std.specs.Prelude.{nat_abs}
 use Rattle.cts_model.specs.Vocabulary.{IsBelow, IsMultipleOf, span, IsDoubleReach}
@@ -85,34 +86,21 @@ pair_shows : (sinks : List Sink) (numbers : List ℕ) (reach : ℤ) (high low : 
 pair_shows sinks numbers reach high low one other high_in low_in here there is = elim
     (cases_lt low high) [
       | inl less ↦ rw (
-        min_right high low (omega (arith, less)),
-        max_left_of high low
-            (omega (arith, less)),
+        min-eq_right {n = low} {m = high} (omega (arith, less)),
+        max-eq_left {n = high} {m = low} (omega (arith, less)),
       ) (record {
         ordered = omega (arith, less);
         first_below = low_in;
         second_below = high_in;
         value = rw (there, here) (is ∙ span_is_symmetric one other);
       })
-      | inr less ↦ rw (min_left high low less, max_right_of high low less) (record {
+      | inr less ↦ rw (min-eq_left less, max-eq_right less) (record {
         ordered = less;
         first_below = high_in;
         second_below = low_in;
         value = rw (here, there) is;
       })
     ]
-  where
-    min_right : (a b : ℕ) → b ≤ a → min a b ≡ b
-    min_right a b less = omega arith
-
-    min_left : (a b : ℕ) → a ≤ b → min a b ≡ a
-    min_left a b less = omega arith
-
-    max_left_of : (a b : ℕ) → b ≤ a → max a b ≡ a
-    max_left_of a b less = omega arith
-
-    max_right_of : (a b : ℕ) → a ≤ b → max a b ≡ b
-    max_right_of a b less = omega arith
 
 -- two ends show what the sinks there span
 ends_show : {sinks : List Sink} {numbers : List ℕ} {far back : Sink → ℤ} {high low : End}

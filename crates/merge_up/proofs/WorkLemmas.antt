@@ -1,9 +1,8 @@
 -- What a room holds after a node is renewed.
-use Rattle.merge_up.proofs.Vocabulary.{◌≡◌, ◌≢◌, inl, inr, ℕ, zero, suc, ◌+◌, ◌-◌, ◌^◌, ◌<◌, ◌≤◌, min, Bool, false, replicate, take, IsFalse, List, [], ◌∷◌, ◌++◌, length, set, Option, Some, unwrap_or, IsSomeAnd, slice_get, slice_set, filter_map, ℤ, ◌+ℤ◌, refl, sym, ap, subst, ◌∙◌, arith, rules, cases_eq, length-set, get_or-set_same, length-take-le, take-replicate, All-replicate, take-set-lt, slice_get-get_or, slice_get_within, Sink, Merge, ShowsMerge, IsTopology, numbers_below, merge_at, merge_here, numbers_below-merge, HasExtremeSides, spread, Rect, region_from_sides, spread_is_reach, HoldsJoined, HoldsMerge, HoldsSink, HoldsSinks, KeepsEnds, IsPointOf, IsRenewed, IsSinkSet, IsUnsettled, renewed_as, AreEnds, extremes_of, HasEntries, state_of, WorkState, IsFit, Ends}
+use Rattle.merge_up.proofs.Vocabulary.{◌≡◌, ◌≢◌, inl, inr, ℕ, zero, suc, ◌+◌, ◌-◌, ◌^◌, ◌<◌, ◌≤◌, min, Bool, false, replicate, take, IsFalse, List, [], ◌∷◌, ◌++◌, length, set, Option, Some, unwrap_or, IsSomeAnd, slice_get, slice_set, filter_map, ℤ, ◌+ℤ◌, refl, sym, ap, subst, ◌∙◌, arith, rules, cases_eq, length-set, get_or-set_same, length-take-le, take-replicate, All-replicate, take-set-lt, slice_get-get_or, slice_get_within, Sink, Merge, ShowsMerge, IsTopology, numbers_below, HasExtremeSides, spread, Rect, region_from_sides, spread_is_reach, HoldsMerge, HoldsSink, HoldsSinks, KeepsEnds, IsPointOf, IsRenewed, IsSinkSet, IsUnsettled, renewed_as, AreEnds, extremes_of, HasEntries, state_of, WorkState, IsFit, Ends}
 use Rattle.cts_model.specs.declared.tree.Show.{Show}
 use Rattle.merge_up.specs.declared.work.Work.TheInside.{Inside}
 use Rattle.merge_up.proofs.EndLemmas.{ends_are_extremes}
-use Rattle.merge_up.proofs.SearchLemmas.{joined_low}
 
 -- ---- lists
 
@@ -218,19 +217,6 @@ module _ {sinks : List Sink} {merges : List Merge} {place : ℕ} {work new : Wor
 
 -- ---- the merges
 
--- the ends of both nodes that a merge joins are those of the merge
-pub ends_of_merge : (sinks : List Sink) (merges : List Merge) (place : ℕ) (ends : Ends)
-    → IsTopology (length sinks) merges → place < length merges
-    → AreEnds sinks (numbers_below (length sinks) merges (merge_at merges place).first
-    ++ numbers_below (length sinks) merges (merge_at merges place).second) ends
-    → AreEnds sinks (numbers_below (length sinks) merges (length sinks + place)) ends
-ends_of_merge sinks merges place ends topology within =
-    let merge = merge_at merges place in
-    let here = merge_here merges place within in
-    subst (λ numbers. AreEnds sinks numbers ends)
-    (sym (numbers_below-merge (length sinks) merges place merge here
-    (topology.each place merge here)))
-
 -- all sinks and the merges before a place are held
 pub record IsMergedBefore (sinks : List Sink) (merges : List Merge) (place : ℕ)
     (old work : WorkState) : Type 0 where
@@ -241,19 +227,6 @@ pub record IsMergedBefore (sinks : List Sink) (merges : List Merge) (place : ℕ
   pub of_merges : (lower : ℕ) → lower < place → HoldsMerge sinks merges work lower
   pub kept : (lower : ℕ) → lower < place → KeepsEnds sinks merges work lower
   pub settled : IsUnsettled work
-
--- a merge joins sinks and merges before it, which are held
-pub joined_held : (sinks : List Sink) (merges : List Merge) (place : ℕ) (work : WorkState)
-    → IsTopology (length sinks) merges
-    → ((lower : ℕ) → lower < place → HoldsMerge sinks merges work lower)
-    → (node : ℕ) → node ≡ length sinks + place → HoldsJoined sinks merges work node
-joined_held sinks merges place work topology held node at merge lower here joins =
-    let same : node - length sinks ≡ place = omega (arith, at) in
-    held lower (omega (
-      arith,
-      joined_low (length sinks) merges place merge (length sinks + lower) topology
-          (subst (λ n. slice_get merges n ≡ Some merge) same here) joins,
-    ))
 
 -- once the next is made
 pub merged_next : (sinks : List Sink) (merges : List Merge) (place : ℕ) (old work new : WorkState)

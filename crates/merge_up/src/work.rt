@@ -1,4 +1,4 @@
-ghost use Rattle.std.specs.Prelude.{◌≡◌, ◌≤◌, ◌<◌, ◌+◌, ◌*◌, ◌-◌, ◌^◌, List, length, IfOk, IsSomeAnd, slice_get, Some};
+ghost use Rattle.std.specs.Prelude.{◌≡◌, ℕ, ◌++◌, ◌≤◌, ◌<◌, ◌+◌, ◌*◌, ◌-◌, ◌^◌, List, length, IfOk, IsSomeAnd, slice_get, Some};
 
 use crate::ends::Ends;
 use crate::nodes::Nodes;
@@ -190,7 +190,7 @@ impl Work {
         let merge = merges[place];
         let first = nodes.found_ends(merge.first);
         let second = nodes.found_ends(merge.second);
-        self.hold(place, first.joined(second));
+        self.hold(place, first, second);
     }
 
     /// Makes a merge anew as `renew` does, by the sinks that are kept as the furthest below the two
@@ -215,17 +215,20 @@ impl Work {
         let merge = merges[place];
         let first = nodes.kept_ends(merge.first);
         let second = nodes.kept_ends(merge.second);
-        self.hold(place, first.joined(second));
+        self.hold(place, first, second);
     }
 
-    // Holds of a merge what its furthest sinks say.
-    fn hold(&mut self, place: usize, ends: Ends)
+    // Holds of a merge what the furthest sinks of the two nodes that it joins say.
+    fn hold(&mut self, place: usize, first: Ends, second: Ends)
         requires { place + 1 < self.old.sinks }
-        ensures { (sinks : List Sink) (merges : List Merge) → self.old.sinks ≡ length sinks
-            → AreEnds sinks (numbers_below (length sinks) merges (length sinks + place)) ends
+        ensures { (sinks : List Sink) (merges : List Merge) (one other : List ℕ)
+            → self.old.sinks ≡ length sinks
+            → numbers_below (length sinks) merges (length sinks + place) ≡ one ++ other
+            → AreEnds sinks one first → AreEnds sinks other second
             → IsRenewed sinks merges place self.old self.new }
     {
         let node = self.sinks + place;
+        let ends = first.joined(second);
         let (reach, region) = ends.reach_and_region();
         self.tree.reach.set(node, reach);
         self.regions.set(node, region);

@@ -11,7 +11,6 @@ pub use Rattle.cts_model.specs.declared.tree.Show.{Show}
 pub use Rattle.cts_model.specs.declared.tree.Tree.{Tree}
 pub use Rattle.cts_model.specs.Vocabulary.{entries_in, has_words, words_in, entries_of, IsLeastWire, RealisesOffsets, embedding_of, total_wire, total_length, ShowsMerge, AreShown, AreTreeSinks, IsTreeSink, numbers_below, IsTopology, IsLive, IsMerge, Joins, source_of}
 pub use Rattle.merge_up.proofs.WorkLemmas.{merges_set, set_held, set_kept, sinks_set, ends_renewed, merges_renewed, sinks_renewed}
-pub use Rattle.merge_up.proofs.SearchLemmas.{joined_low}
 pub use Rattle.merge_up.specs.Merging.{HoldsMerge, IsMerged, IsSinkSet, HoldsSinks, IsRenewed, KeepsAllEnds, KeepsEnds}
 pub use Rattle.merge_up.specs.Works.{WorkState, IsFit}
 pub use Rattle.move_session.specs.MergesAbove.{HoldsWithEnds, IsMergedBeside, IsStep, JoinsAt, is_above, merges_above}

@@ -1,5 +1,5 @@
-ghost use Rattle.std.specs.Prelude.{◌≡◌, ◌<◌, ◌+◌, ◌-◌, ◌^◌, min, length};
-ghost use Rattle.move_session.specs.Vocabulary.{AreTreeSinks, IsTopology, IsMerged, KeepsAllEnds, KeepsJoined, IsFit, IsMergedBeside, IsStep, merges_above};
+ghost use Rattle.std.specs.Prelude.{◌≡◌, ℕ, ◌<◌, ◌+◌, ◌-◌, ◌^◌, min, length};
+ghost use Rattle.move_session.specs.Vocabulary.{AreTreeSinks, IsTopology, IsMerged, KeepsAllEnds, KeepsEnds, IsFit, IsMergedBeside, IsStep, merges_above};
 
 use cts_model::{Sink, Topology};
 use merge_up::Work;
@@ -36,8 +36,8 @@ fn renew_joining(
     requires topology { IsTopology (length sinks.now) topology.now.merges }
     requires count { work.old.sinks ≡ length sinks.now }
     requires within { place < length topology.now.merges }
-    requires kept { KeepsJoined sinks.now topology.now.merges work.old
-        (length sinks.now + place) }
+    requires kept { (lower : ℕ) → lower < place
+        → KeepsEnds sinks.now topology.now.merges work.old lower }
     ensures { IsStep sinks.now topology.now.merges place node work.old work.new result }
 {
     let merge = topology.merges.as_slice()[place];

@@ -1,5 +1,5 @@
 -- What a room holds of a merge for some sinks, it holds for others that are alike below it.
-use Rattle.tree_tests.proofs.Vocabulary.{◌≡◌, ◌≢◌, ℕ, zero, suc, ◌+◌, ◌<◌, List, [], ◌∷◌, ◌++◌, Contains, length, Some, Option, IsSomeAnd, slice_get, slice_set, filter_map, ℤ, ◌+ℤ◌, refl, sym, ap, subst, ◌∙◌, arith, length-set, All-cons, All-contains, All-nil, All-set, Contains-append_right, Sink, Merge, Show, IsDoubleReach, ShowsMerge, AreTreeSinks, IsTreeSink, IsTopology, numbers_below, sinks_below, numbers_below-merge, numbers_below-sink, some_and, IsRegion, HoldsMerge, IsRenewed, IsSinkSet, WorkState, merges_renewed, merges_set, set_kept}
+use Rattle.tree_tests.proofs.Vocabulary.{◌≡◌, ◌≢◌, ℕ, zero, suc, ◌+◌, ◌-◌, ◌<◌, List, [], ◌∷◌, ◌++◌, Contains, length, Some, Option, IsSomeAnd, slice_get, slice_set, filter_map, ℤ, ◌+ℤ◌, refl, sym, ap, subst, ◌∙◌, arith, length-set, All-cons, All-contains, All-nil, All-set, Contains-append_right, Sink, Merge, Show, Joins, IsDoubleReach, ShowsMerge, AreTreeSinks, IsTreeSink, IsTopology, numbers_below, sinks_below, numbers_below-merge, numbers_below-sink, some_and, IsRegion, HoldsJoined, HoldsMerge, IsRenewed, IsSinkSet, WorkState, merges_renewed, merges_set, set_kept, joined_low}
 use Rattle.std.specs.List.{All, cons_option}
 use Rattle.cts_model.specs.declared.tree.Show.TheVariants as shows
 
@@ -97,6 +97,19 @@ held_of_two sinks others merges work place first second topology count first_in 
   where
     Same : ℕ → Type 0
     Same number = slice_get others number ≡ slice_get sinks number
+
+-- a merge joins sinks and merges before it, which are held
+pub joined_held : (sinks : List Sink) (merges : List Merge) (place : ℕ) (work : WorkState)
+    → IsTopology (length sinks) merges
+    → ((lower : ℕ) → lower < place → HoldsMerge sinks merges work lower)
+    → (node : ℕ) → node ≡ length sinks + place → HoldsJoined sinks merges work node
+joined_held sinks merges place work topology held node at merge lower here joins =
+    let same : node - length sinks ≡ place = omega (arith, at) in
+    held lower (omega (
+      arith,
+      joined_low (length sinks) merges place merge (length sinks + lower) topology
+          (subst (λ n. slice_get merges n ≡ Some merge) same here) joins,
+    ))
 
 -- once the first of four sinks is set and its merge renewed, both lower merges are held
 pub held_lower : (sinks others : List Sink) (merges : List Merge) (sink : Sink)

@@ -6,8 +6,9 @@ pub use Rattle.cts_model.proofs.TopologyLemmas.{numbers_below-merge, numbers_bel
 pub use Rattle.cts_model.specs.declared.place.Sink.{Sink}
 pub use Rattle.cts_model.specs.declared.tree.Merge.{Merge}
 pub use Rattle.cts_model.specs.declared.tree.Show.{Show}
-pub use Rattle.cts_model.specs.Vocabulary.{IsDoubleReach, span, ShowsMerge, AreTreeSinks, IsTreeSink, IsTopology, numbers_below, sinks_below, IsMerge}
-pub use Rattle.merge_up.proofs.WorkLemmas.{merges_renewed, merges_set, set_kept, IsBegun, begun_next, joined_held}
-pub use Rattle.merge_up.specs.Merging.{HoldsMerge, IsRenewed, IsSinkSet, HoldsSink, IsMerged, IsUnsettled}
+pub use Rattle.cts_model.specs.Vocabulary.{IsDoubleReach, span, ShowsMerge, AreTreeSinks, IsTreeSink, IsTopology, numbers_below, sinks_below, IsMerge, Joins}
+pub use Rattle.merge_up.proofs.WorkLemmas.{merges_renewed, merges_set, set_kept, IsBegun, begun_next}
+pub use Rattle.merge_up.proofs.SearchLemmas.{joined_low}
+pub use Rattle.merge_up.specs.Merging.{HoldsJoined, HoldsMerge, IsRenewed, IsSinkSet, HoldsSink, IsMerged, IsUnsettled}
 pub use Rattle.merge_up.specs.Works.{WorkState, IsFit}
 pub use Rattle.tilted_rect.specs.Extremes.{IsRegion, Extremes, IsExtremes, u_above, u_below, v_above, v_below}

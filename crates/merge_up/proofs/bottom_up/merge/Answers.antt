@@ -19,7 +19,6 @@ pub loop-place-preserved : goal.loop-place-preserved
 loop-place-preserved c =
     let sinks = c.args.sinks.now in
     let merges = c.args.topology.now.merges in
-    let place = c.loop-place.place in
-    merged_next sinks merges place c.args.work.now c.loop-place.work c.renew_from_kept.new.self
-    c.loop-place.invariant (subst (λ n. IsRenewed sinks merges n c.loop-place.work
+    merged_next sinks merges c.loop-place.place c.args.work.now c.loop-place.work
+    c.renew_from_kept.new.self c.loop-place.invariant (subst (λ n. IsRenewed sinks merges n c.loop-place.work
     c.renew_from_kept.new.self) (omega arith) c.renew_from_kept.ensures)

@@ -1,4 +1,4 @@
-use Rattle.move_session.proofs.Vocabulary.{◌≡◌, ◌+◌, ◌-◌, ◌<◌, Some, arith, length, slice_get, subst, joined_low}
+use Rattle.move_session.proofs.Vocabulary.{◌≡◌, ◌<◌, arith, length, subst}
 use Rattle.move_session.proofs.StepsUp.{IsOnWay, on_way_first, on_way_next, way_counted}
 use Rattle.move_session.proofs.way_up.renew_above.Goals as goal
 
@@ -7,14 +7,7 @@ loop-place-init c = on_way_first c.args.sinks.now c.args.topology.now.merges c.a
     c.args.work.now c.requires.register c.requires.fit c.requires.beside
 
 pub renew_joining-node-requires-clause-kept : goal.renew_joining-node-requires-clause-kept
-renew_joining-node-requires-clause-kept c = λ merge lower here joins.
-    let sinks = length c.args.sinks.now in
-    let merges = c.args.topology.now.merges in
-    let place = c.loop-place.place in
-    let same : (sinks + place) - sinks ≡ place = omega arith in
-    let low = joined_low sinks merges place merge (sinks + lower) c.requires.topology
-    (subst (λ n. slice_get merges n ≡ Some merge) same here) joins in
-    let before : lower < place = omega (arith, low) in
+renew_joining-node-requires-clause-kept c = λ lower before.
     (c.loop-place.invariant.of_merges lower (omega (arith, before, c.loop-place-test.true))
     (λ past. absurd (omega (arith, before, past)))).1
 

@@ -1,5 +1,5 @@
-use Rattle.tree_tests.proofs.Vocabulary.{◌≡◌, ◌-◌, ◌∙◌, length, sym, ap, subst, arith, length-set, IsTopology, IsMerged, IsRenewed, joined_held}
-use Rattle.tree_tests.proofs.HeldForOthers.{JoinsAt, held_lower, tree_sinks_set}
+use Rattle.tree_tests.proofs.Vocabulary.{◌≡◌, ◌-◌, ◌∙◌, length, sym, ap, subst, arith, length-set, IsTopology, IsMerged, IsRenewed}
+use Rattle.tree_tests.proofs.HeldForOthers.{joined_held, JoinsAt, held_lower, tree_sinks_set}
 use Rattle.tree_tests.proofs.merge_tests.counts_what_is_renewed.Goals as goal
 
 pub renew-requires-clause-sinks : goal.renew-requires-clause-sinks

@@ -1,4 +1,5 @@
-use Rattle.tree_tests.proofs.Vocabulary.{◌≡◌, ◌-◌, ◌∙◌, length, sym, subst, arith, IsTopology, HoldsMerge, joined_held}
+use Rattle.tree_tests.proofs.Vocabulary.{◌≡◌, ◌-◌, ◌∙◌, length, sym, subst, arith, IsTopology, HoldsMerge}
+use Rattle.tree_tests.proofs.HeldForOthers.{joined_held}
 use Rattle.tree_tests.proofs.merge_tests.renews_what_is_above_a_moved_sink.Goals as goal
 
 pub renew-requires-clause-joined : goal.renew-requires-clause-joined

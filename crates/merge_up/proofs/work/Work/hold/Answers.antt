@@ -17,12 +17,13 @@ invariant_of-self c =
     search (rules, reaches, regions, ends, shows, settled, added, has)
 
 pub returns : goal.returns
-returns c = λ sinks merges same are.
+returns c = λ sinks merges one other same both held others.
     let work = c.self.inside in
     let has = c.self.invariant in
     let place = c.args.place in
     let node = work.sinks + place in
-    let ends = c.args.ends in
+    let ends = c.joined-ends.result in
+    let are = rw (← both) at (c.joined-ends.ensures sinks one other held others) in
     let low : place + 1 < work.sinks = rw (← c.self.view_is) at c.requires in
     let count : work.sinks ≡ length sinks = rw (← c.self.view_is) at same in
     let at : node ≡ length sinks + place = ap (λ n. n + place) count in

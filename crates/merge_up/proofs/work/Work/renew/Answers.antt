@@ -1,5 +1,4 @@
-use Rattle.merge_up.proofs.Vocabulary.{◌-◌, length, inl, inr, arith, numbers_below, merge_at, merge_here, second_made}
-use Rattle.merge_up.proofs.WorkLemmas.{ends_of_merge}
+use Rattle.merge_up.proofs.Vocabulary.{◌-◌, length, inl, inr, arith, merge_here, numbers_below-merge, second_made}
 use Rattle.merge_up.proofs.work.Work.renew.Goals as goal
 
 pub found_ends-first-requires-clause-held : goal.found_ends-first-requires-clause-held
@@ -17,12 +16,13 @@ found_ends-second-requires-clause-held c =
 pub found_ends-second-requires-clause-node : goal.found_ends-second-requires-clause-node
 found_ends-second-requires-clause-node c =
     let sinks = length c.args.sinks.now in
-    let merges = c.args.topology.now.merges in
-    let here = merge_here merges (c.args.node - sinks) (omega (arith, c.requires)) in
+    let place = c.args.node - sinks in
+    let here = merge_here c.args.topology.now.merges place (omega (arith, c.requires)) in
     rw c.as_slice-merges.ensures (omega (
       arith,
       c.requires,
-      second_made sinks merges c.requires.topology.each (c.args.node - sinks) _ here,
+      second_made sinks
+          c.args.topology.now.merges c.requires.topology.each place _ here,
     ))
 
 pub returns : goal.returns
@@ -30,10 +30,8 @@ returns c =
     let sinks = c.args.sinks.now in
     let merges = c.args.topology.now.merges in
     let place = c.args.node - length sinks in
-    c.hold.ensures sinks merges c.requires.count
-    (ends_of_merge sinks merges place c.joined.result c.requires.topology
-    (omega (arith, c.requires))
-    (c.joined.ensures sinks (numbers_below (length sinks) merges (merge_at merges place).first)
-    (numbers_below (length sinks) merges (merge_at merges place).second)
+    let here = merge_here merges place (omega (arith, c.requires)) in
+    c.hold.ensures sinks merges _ _ c.requires.count
+    (numbers_below-merge (length sinks) merges place _ here (c.requires.topology.each place _ here))
     (rw c.as_slice-merges.ensures at c.found_ends-first.ensures)
-    (rw c.as_slice-merges.ensures at c.found_ends-second.ensures)))
+    (rw c.as_slice-merges.ensures at c.found_ends-second.ensures)

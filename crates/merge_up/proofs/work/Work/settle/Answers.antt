@@ -9,7 +9,8 @@ invariant_of-self c =
     let node = c.args.node in
     let places = ap length c.set.ensures ∙ length-set work.tree.place node _ in
     let lengths = ap length c.set-2.ensures ∙ length-set work.tree.length node _ in
-    search (rules, places, lengths, ap length c.settle.ensures ∙ length-set work.settled node true, has)
+    let settled = ap length c.settle.ensures ∙ length-set work.settled node true in
+    search (rules, places, lengths, settled, has)
 
 pub returns : goal.returns
 returns c =

@@ -10,7 +10,8 @@ invariant_of-self c =
     let shows = ap length c.set-3.ensures ∙ length-set work.shows (work.sinks - 1) c.args.show in
     let reaches = ap length c.set-2.ensures ∙ length-set work.tree.reach source _ in
     let places = ap length c.set.ensures ∙ length-set work.tree.place source _ in
-    search (rules, shows, reaches, places, ap length c.settle.ensures ∙ length-set work.settled source true, has)
+    let settled = ap length c.settle.ensures ∙ length-set work.settled source true in
+    search (rules, shows, reaches, places, settled, has)
 
 pub returns : goal.returns
 returns c =
