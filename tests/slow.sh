@@ -36,6 +36,7 @@ run() {
     local words=(--bench "$work/$1.bench")
     case $2 in
         synth) words+=(--tech "$work/$1.toml" --pl "$work/$1.pl") ;;
+        moves) words+=(--tech "$work/$1.toml" --pl "$work/$1.pl" --moves "$work/$1.moves") ;;
         margin) words+=(--tech "$work/$1.toml" --period 100000) ;;
         corners) words+=("$work/$1.toml") ;;
         *) words+=(--tech "$work/$1.toml") ;;
@@ -94,6 +95,8 @@ for command in period schedule margin corners; do
 done
 compare names zero 3 0
 compare placed_names synth 3 0
+compare deep_chain moves 3 0
+compare far_chain moves 3 0
 compare long_key zero 6 3 0
 compare array zero 3 3
 compare headers zero 6 3

@@ -1,6 +1,6 @@
 #!/usr/bin/env python3
 """Makes inputs that hurt, each beside an ordinary one of its size: `inputs.py FOLDER [NAMES]` writes FOLDER/KIND.slow.bench and
-FOLDER/KIND.usual.bench, with a delay table and, where a placement is what hurts, a placement beside each. NAMES is a file of names
+FOLDER/KIND.usual.bench, with a delay table and, where they are what hurts, a placement and moves beside each. NAMES is a file of names
 that collide; without it those kinds are left out."""
 
 import random
@@ -92,8 +92,47 @@ def table_with(lines):
     return ["INPUT(x)", "r = DFF(x)"], table({}, setup=1) + lines + "\n"
 
 
-def write(base, lines, delays, places=None):
-    for ending, text in (("bench", "\n".join(lines) + "\n"), ("toml", delays), ("pl", places and "\n".join(places) + "\n")):
+def tapped(order, increments):
+    """A chain of gates with a register at each, in this order, each so many ticks later than the one before it."""
+    lines = ["INPUT(x)", "s = DFF(x)"] + [f"r{one} = DFF(q{one})" for one in range(len(order))]
+    lines += ["t = NAND(s)", f"q{order[0]} = XOR(t)"]
+    for before, one, ticks in zip(order, order[1:], increments):
+        last = f"q{before}"
+        for kind, digit in (("AND", ticks % 16), ("OR", ticks // 16 % 16), ("NOR", ticks // 256)):
+            name = f"q{one}" if kind == "NOR" else f"{kind}{one}"
+            lines.append(f"{name} = {kind}(" + ", ".join([last] * (digit + 1)) + ")")
+            last = name
+    return lines, table({"NAND": (FLOOR, 0), "XOR": (0, 0), "AND": (0, 1), "OR": (0, 16), "NOR": (0, 256)}, floor=FLOOR)
+
+
+def deep_chain(registers):
+    """A tree that is a chain, and moves of its deepest sinks; and a tree of usual depth of the same registers."""
+    netlist = tapped(range(registers), range(registers - 1, 0, -1))
+    places = ["CLK 0 0", "s 0 0"] + [f"r{one} 0 0" for one in range(registers)]
+    moves = [f"r{registers - 1 - step % 2} {step % 7} {step % 5}" for step in range(2000)]
+    return (*netlist, places, moves), (*netlist, *spread(registers))
+
+
+def far_chain(registers):
+    """The same, where the deepest sink is the furthest of each merge to two sides."""
+    netlist = tapped(range(registers - 1, -1, -1), [2 * one for one in range(registers - 1, 1, -1)] + [1])
+    places = ["CLK 0 0", f"s {-8 * registers * (registers - 1)} 0", "r0 0 0"]
+    places += [f"r{one} {-one * (one + 1) - 1} 0" for one in range(1, registers)]
+    moves = [f"r1 {-4 - step % 2} 0" for step in range(2000)]
+    return (*netlist, places, moves), (*netlist, *spread(registers))
+
+
+def spread(registers):
+    """Places far apart, and moves of any registers."""
+    chance = random.Random(registers)
+    lines = [f"r{chance.randrange(registers)} {chance.randrange(10**9)} {chance.randrange(10**9)}" for _ in range(2000)]
+    places = [f"r{one} {chance.randrange(10**9)} {chance.randrange(10**9)}" for one in range(registers)]
+    return ["CLK 0 0", "s 0 0"] + places, lines
+
+
+def write(base, lines, delays, places=None, moves=None):
+    for ending, text in (("bench", "\n".join(lines) + "\n"), ("toml", delays), ("pl", places and "\n".join(places) + "\n"),
+                         ("moves", moves and "\n".join(moves) + "\n")):
         if text is not None:
             with open(f"{base}.{ending}", "w") as file:
                 file.write(text)
@@ -107,6 +146,8 @@ def main(folder, names_file=None):
         "hub": (chain(800, 1, 300, True, 60_000), chain(800, 1, 300, True, 0)),
         "far_hub": (chain(800, 3, 300, True, 60_000), chain(800, 3, 300, True, 0)),
         "rings": (rings(200, 400, 400, True), rings(200, 400, 400, False)),
+        "deep_chain": deep_chain(4095),
+        "far_chain": far_chain(3000),
         "outputs": (outputs(200_000), outputs(1)),
         "long_key": (table_with(f"{long_name} = 1"), table_with(f"# {long_name}")),
         "array": (table_with("x = [" + "{a=1}," * 150_000 + "]"), table_with(keys)),
