@@ -1,11 +1,10 @@
-ghost use Rattle.std.specs.Prelude.{◌≡◌};
+ghost use Rattle.std.specs.Prelude.{◌≡◌, ◌<◌, ◌≤◌, length};
 ghost use Rattle.topology.specs.Vocabulary.{IsBelow, AreTreeSinks, bound, high_on, low_on};
 
+use cts_base::NoMemory;
 use cts_model::Sink;
+use std::alloc::Global;
 use tilted_rect::Cluster;
-
-// How many sinks are searched for, at most, to choose an axis.
-const SEARCHES: usize = 8;
 
 /// What clusters may stand in order by: merging two costs no less than they are apart on any axis.
 #[derive(Clone, Copy, PartialEq, Eq)]
@@ -43,60 +42,79 @@ impl Axis {
         }
     }
 
-    /// The axis on which searches pass the fewest sinks, as far as those for a few of them tell.
-    /// One sink far away is one of many that are passed, where it would decide which axis has the
-    /// greatest distance. Any axis serves.
-    pub(crate) fn sparsest(sinks: &[Sink]) -> Axis
+    /// The axis on which the fewest pairs of sinks are near: no further apart than about the root of
+    /// their number span in the middle of the axis where that is the most. All sinks count, and one
+    /// that is far away counts as one. Any axis serves.
+    pub(crate) fn sparsest(alloc: Global, sinks: &[Sink]) -> Result<Axis, NoMemory>
         requires { AreTreeSinks sinks.now }
     {
-        let mut u = 0u64;
-        let mut v = 0u64;
-        let mut reach = 0u64;
-        let step = sinks.len() / SEARCHES + 1;
-        for place in 0..sinks.len() {
-            if place % step == 0 {
-                let cluster = Cluster::of(sinks[place]);
-                let cost = least_cost(sinks, place, &cluster);
-                u = u.saturating_add(Axis::U.passed(sinks, &cluster, cost));
-                v = v.saturating_add(Axis::V.passed(sinks, &cluster, cost));
-                reach = reach.saturating_add(Axis::Reach.passed(sinks, &cluster, cost));
-            }
-        }
-        if reach < u.min(v) {
-            Axis::Reach
-        } else if v < u {
-            Axis::V
-        } else {
-            Axis::U
-        }
+        let u = Axis::U.lows(alloc, sinks)?;
+        let v = Axis::V.lows(alloc, sinks)?;
+        let reach = Axis::Reach.lows(alloc, sinks)?;
+        let near = spacing(alloc, &u)?;
+        let near = near.max(spacing(alloc, &v)?);
+        let near = near.max(spacing(alloc, &reach)?);
+        let on_u = near_pairs(&u, near);
+        let on_v = near_pairs(&v, near);
+        Ok(fewest(on_u, on_v, near_pairs(&reach, near)))
     }
 
-    // How many sinks a search passes for that of a cluster: those that are nearer on the axis than
-    // what the nearest costs.
-    fn passed(self, sinks: &[Sink], cluster: &Cluster, cost: u128) -> u64
+    // Where the clusters of the sinks begin, ascending.
+    fn lows(self, alloc: Global, sinks: &[Sink]) -> Result<Vec<i128>, NoMemory>
         requires { AreTreeSinks sinks.now }
     {
-        let from = self.low(cluster);
-        let mut passed = 0u64;
+        let mut lows = Vec::new(alloc);
         for sink in sinks {
-            if self.low(&Cluster::of(*sink)).abs_diff(from) < cost {
-                passed = passed.saturating_add(1);
-            }
+            lows.push(self.low(&Cluster::of(*sink)))?;
         }
-        passed
+        lows.sort_unstable();
+        Ok(lows)
     }
 }
 
-// The least that merging the sink at a place, whose cluster that is, with another costs.
-fn least_cost(sinks: &[Sink], place: usize, cluster: &Cluster) -> u128
-    requires { AreTreeSinks sinks.now }
+// The axis with the fewest pairs.
+fn fewest(on_u: u64, on_v: u64, on_reach: u64) -> Axis {
+    if on_reach < on_u.min(on_v) {
+        Axis::Reach
+    } else if on_v < on_u {
+        Axis::V
+    } else {
+        Axis::U
+    }
+}
+
+// The middle one of the distances that so many of the ascending numbers span as the root of how
+// many there are, or somewhat fewer.
+fn spacing(alloc: Global, lows: &[i128]) -> Result<u128, NoMemory> {
+    let apart = 1 << (lows.len().max(1).ilog2() / 2);
+    let mut spans = Vec::new(alloc);
+    for place in apart..lows.len() {
+        spans.push(lows[place].abs_diff(lows[place - apart]))?;
+    }
+    spans.sort_unstable();
+    Ok(spans.get(spans.len() / 2).copied().unwrap_or(0))
+}
+
+// How many pairs of ascending numbers are no further apart than that.
+fn near_pairs(lows: &[i128], near: u128) -> u64 {
+    let mut pairs = 0u64;
+    let mut from = 0;
+    for place in 0..lows.len() {
+        from = first_near(lows, from, place, near);
+        pairs = pairs.saturating_add((place - from) as u64);
+    }
+    pairs
+}
+
+// The first place from there on whose number is as near to that at the last one.
+fn first_near(lows: &[i128], from: usize, last: usize, near: u128) -> usize
+    requires { last < length lows.now }
+    ensures { result ≤ last }
 {
-    let mut least = u128::MAX;
-    for other in 0..sinks.len() {
-        if other != place {
-            let cost = cluster.cost(&Cluster::of(sinks[other]));
-            least = least.min(cost.unsigned_abs());
+    for place in from..last {
+        if lows[last].abs_diff(lows[place]) <= near {
+            return place;
         }
     }
-    least
+    last
 }

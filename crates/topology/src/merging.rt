@@ -12,8 +12,8 @@ use tilted_rect::Cluster;
 
 /// The topology that merges, again and again, the two clusters whose merging costs the least wire.
 /// Of pairs that cost as much it merges that of the lower first node, and then of the lower second.
-/// The clusters stand in order on the axis (`u`, `v`, reach) on which searches for a few sinks pass
-/// the fewest. One looks at those that are near enough on it alone, and what it finds is kept until
+/// The clusters stand in order on the axis (`u`, `v`, reach) on which the fewest pairs of sinks are
+/// near. A search looks at those that are near enough on it alone, and what it finds is kept until
 /// a merge breaks it up. Sinks at one place with one offset cost nothing to merge: one sweep does
 /// that first. Edahiro, "A Clustering-Based Optimization Algorithm in Zero-Skew Routings", 1993.
 ///
@@ -65,7 +65,7 @@ fn sink_clusters(alloc: Global, sinks: &[Sink]) -> Result<Ordered, NoMemory>
     ensures { IfOk result
         (λ clusters. AreFirstSinks sinks.now (length sinks.now) clusters.live) }
 {
-    let mut clusters = Ordered::new(alloc, Axis::sparsest(sinks));
+    let mut clusters = Ordered::new(alloc, Axis::sparsest(alloc, sinks)?);
     for sink in sinks {
         clusters = clusters.add(Cluster::of(*sink))?;
     }
