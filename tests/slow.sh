@@ -97,6 +97,7 @@ compare names zero 3 0
 compare placed_names synth 3 0
 compare deep_chain moves 3 0
 compare far_chain moves 3 0
+compare hidden_axis synth 3 0
 compare long_key zero 6 3 0
 compare array zero 3 3
 compare headers zero 6 3

@@ -82,6 +82,19 @@ def placement_of_names(names):
     return lines, table({}, setup=1), places + [f"{names[4095]} 0 0"] * 60_000
 
 
+def placement_on_line(hidden):
+    """4,096 registers on a line at 45 degrees, in no order, but for eight at even places of the file, which where `hidden` is so stand
+    on a line across to it, far away."""
+    count = 4096
+    order = random.Random(4).sample(range(10**8), count)
+    lines, places = ["INPUT(x)"], ["CLK 0 0"]
+    for number, place in enumerate(order):
+        apart = hidden and number % (count // 8 + 1) == 0
+        lines.append(f"r{number} = DFF(x)")
+        places.append(f"r{number} {5 * 10**8 + number if apart else place} {5 * 10**8 + number if apart else -place}")
+    return lines, table({}), places
+
+
 def outputs(lines):
     """Many lines that name one output."""
     return ["INPUT(x)", "r = DFF(g)", "g = NOT(r)"] + ["OUTPUT(g)"] * lines, table({"NOT": (1, 0)})
@@ -148,6 +161,7 @@ def main(folder, names_file=None):
         "rings": (rings(200, 400, 400, True), rings(200, 400, 400, False)),
         "deep_chain": deep_chain(4095),
         "far_chain": far_chain(3000),
+        "hidden_axis": (placement_on_line(True), placement_on_line(False)),
         "outputs": (outputs(200_000), outputs(1)),
         "long_key": (table_with(f"{long_name} = 1"), table_with(f"# {long_name}")),
         "array": (table_with("x = [" + "{a=1}," * 150_000 + "]"), table_with(keys)),
