@@ -1,5 +1,5 @@
 -- The furthest sinks of a set to the four sides, and what they say of its reach and its shows.
-use Rattle.merge_up.proofs.Vocabulary.{◌≡◌, ℕ, ◌≤◌, inl, inr, min, max, List, [], ◌∷◌, ◌++◌, Contains, Some, slice_get, filter_map, ℤ, ◌+ℤ◌, ◌-ℤ◌, neg_ℤ, ◌≤ℤ◌, refl, ◌*◌, ◌^◌, sym, subst, ◌∙◌, arith, ints, clamps, to_z-of_z, Contains-append_left, Contains-append_right, filter_map-append, int_max, w128, kept, difference_read, Sink, cases_lt, ShowsMerge, sinks_of_u_show, sinks_of_v_show, span_is_symmetric, spread_is_reach, found_among, some_and, Extremes, IsExtremes, IsGreatest, IsLeastOf, HasExtremeSides, spread, u_below, v_below, Rect, End, Ends, IsEnd, AreEnds, extremes_of, pair_of, u_back, v_back}
+use Rattle.merge_up.proofs.Vocabulary.{◌≡◌, ℕ, inl, inr, List, [], ◌∷◌, ◌++◌, Contains, Some, slice_get, filter_map, ℤ, ◌+ℤ◌, ◌-ℤ◌, neg_ℤ, ◌≤ℤ◌, refl, ◌*◌, ◌^◌, sym, subst, ◌∙◌, arith, ints, clamps, to_z-of_z, Contains-append_left, Contains-append_right, filter_map-append, int_max, w128, kept, difference_read, Sink, cases_lt, ShowsMerge, sinks_of_u_show, sinks_of_v_show, span_is_symmetric, spread_is_reach, found_among, some_and, Extremes, IsExtremes, IsGreatest, IsLeastOf, HasExtremeSides, spread, u_below, v_below, Rect, End, Ends, IsEnd, AreEnds, extremes_of, pair_of, u_back, v_back}
 use Rattle.std.proofs.Math.Nat.{max-eq_left, max-eq_right, min-eq_left, min-eq_right}
 use Rattle.tilted_rect.specs.Corners.{IsSide}
 use Rattle.std.specs.Prelude.{nat_abs}

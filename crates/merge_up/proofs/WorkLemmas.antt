@@ -1,5 +1,5 @@
 -- What a room holds after a node is renewed.
-use Rattle.merge_up.proofs.Vocabulary.{◌≡◌, ◌≢◌, inl, inr, ℕ, zero, suc, ◌+◌, ◌-◌, ◌^◌, ◌<◌, ◌≤◌, min, Bool, false, replicate, take, IsFalse, List, [], ◌∷◌, ◌++◌, length, set, Option, Some, unwrap_or, IsSomeAnd, slice_get, slice_set, filter_map, ℤ, ◌+ℤ◌, refl, sym, ap, subst, ◌∙◌, arith, rules, cases_eq, length-set, get_or-set_same, length-take-le, take-replicate, All-replicate, take-set-lt, slice_get-get_or, slice_get_within, Sink, Merge, ShowsMerge, IsTopology, numbers_below, HasExtremeSides, spread, Rect, region_from_sides, spread_is_reach, HoldsMerge, HoldsSink, HoldsSinks, KeepsEnds, IsPointOf, IsRenewed, IsSinkSet, IsUnsettled, renewed_as, AreEnds, extremes_of, HasEntries, state_of, WorkState, IsFit, Ends}
+use Rattle.merge_up.proofs.Vocabulary.{◌≡◌, ◌≢◌, inl, inr, ℕ, zero, suc, ◌+◌, ◌-◌, ◌^◌, ◌<◌, ◌≤◌, min, Bool, false, replicate, take, IsFalse, List, [], ◌∷◌, length, set, Option, Some, unwrap_or, IsSomeAnd, slice_get, slice_set, filter_map, ℤ, ◌+ℤ◌, refl, sym, ap, subst, ◌∙◌, arith, rules, cases_eq, length-set, get_or-set_same, length-take-le, take-replicate, All-replicate, take-set-lt, slice_get-get_or, slice_get_within, Sink, Merge, ShowsMerge, numbers_below, HasExtremeSides, spread, Rect, region_from_sides, spread_is_reach, HoldsMerge, HoldsSink, HoldsSinks, KeepsEnds, IsPointOf, IsRenewed, IsSinkSet, IsUnsettled, renewed_as, AreEnds, extremes_of, HasEntries, state_of, WorkState, IsFit, Ends}
 use Rattle.cts_model.specs.declared.tree.Show.{Show}
 use Rattle.merge_up.specs.declared.work.Work.TheInside.{Inside}
 use Rattle.merge_up.proofs.EndLemmas.{ends_are_extremes}
