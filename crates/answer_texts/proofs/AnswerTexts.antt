@@ -1,6 +1,6 @@
 -- The text of each command for a circuit and its delays is one of counted lines, and its status
 -- says whether a period is admitted.
-use Rattle.answer_texts.proofs.Vocabulary.{◌≡◌, ◌<◌, ◌≤◌, inl, inr, ℕ, zero, suc, ℤ, true, List, [], ◌∷◌, ◌++◌, length, map, nat_abs, refl, ap, sym, subst, append-nil, arith, pos, ints, length-map, length-replicate, All-weaker, Fraction, Circuit, Constraint, PeriodShow, Problem, First, Second, Tech, Topology, IsBetweenRegisters, report_lines, Words, text_of, show_lines, IsCycle, HasNoPeriod, IsForbidding, IsLeastFraction, tails_within, CornersOutcome, AreOfCorners, IsCommonShow, IsCornersOutcome, Form, MarginOutcome, IsMarginOutcome, wire_line, report_lines_are, all_at_zero, cornered_line_at, cornered_lines, common_show_lines, corners_lines, corners_status, IsCornersText, summary_lines, IsSummaryText, IsDemoText, IsTreeText, IsSynthesisText, IsEmbeddingText, margin_lines, IsMarginText, period_lines, never_lines, outcome_status, IsPeriodText, schedule_lines, IsScheduleText, IsCheckable, IsFoundOrNever, IsSynthText, IsEmbedText, zero_lines, IsZeroText}
+use Rattle.answer_texts.proofs.Vocabulary.{◌≡◌, ◌<◌, ◌≤◌, inl, inr, ℕ, zero, suc, ℤ, true, List, [], ◌∷◌, ◌++◌, length, map, nat_abs, refl, ap, sym, subst, append-nil, arith, pos, ints, length-map, length-replicate, All-weaker, Fraction, Circuit, Constraint, PeriodShow, Problem, First, Second, Tech, Topology, IsBetweenRegisters, report_lines, Words, text_of, show_lines, IsCycle, HasNoPeriod, IsForbidding, IsLeastFraction, tails_within, CornersOutcome, AreOfCorners, IsCommonShow, Form, MarginOutcome, IsMarginOutcome, wire_line, report_lines_are, all_at_zero, cornered_line_at, cornered_lines, common_show_lines, corners_lines, IsCornersText, summary_lines, IsSummaryText, IsDemoText, IsTreeText, IsSynthesisText, IsEmbeddingText, margin_lines, IsMarginText, never_lines, found_lines, IsLeastText, IsPeriodText, register_lines, IsScheduledText, IsScheduleText, IsCheckable, IsNeverText, IsFoundOrNever, IsSynthText, IsEmbedText, zero_lines, IsZeroText}
 use Rattle.cts_model.specs.declared.period.PeriodShow.TheVariants as shows
 use Rattle.answer_texts.specs.Types.{Point}
 use Rattle.cts_model.specs.Vocabulary.{IsWithinBounds, grid_of}
@@ -12,12 +12,6 @@ use Rattle.corners.proofs.OutcomeLemmas.{none_where_forbidden}
 use Rattle.command_line.specs.declared.table.Form.TheVariants as forms
 use Rattle.move_session.specs.declared.moves.Move.{Move}
 use Rattle.outcomes.specs.declared.margin.MarginOutcome.TheVariants as margins
-use Rattle.outcomes.specs.declared.period.PeriodOutcome.{PeriodOutcome}
-use Rattle.outcomes.specs.declared.period.PeriodOutcome.TheVariants as periods
-use Rattle.outcomes.specs.declared.scheduling.ScheduleOutcome.{ScheduleOutcome}
-use Rattle.outcomes.specs.declared.scheduling.ScheduleOutcome.TheVariants as schedules
-use Rattle.outcomes.specs.PeriodOutcomes.{IsPeriodOutcome}
-use Rattle.outcomes.specs.ScheduleOutcomes.{period_outcome, IsScheduleOutcome}
 use Rattle.outcomes.proofs.JoiningCycles.{cycle_joins}
 use Rattle.answer_texts.specs.CheckTexts.{shown_line}
 use Rattle.answer_texts.specs.MoveTexts.{AreWires, IsWiresText, IsMovesText, IsWireAt, moved_places}
@@ -115,50 +109,49 @@ module _ (circuit : Circuit) (tech : Tech) where
     spelled = spelled;
   }
 
-  -- the least period that any arrivals allow
-  period_is : (outcome : PeriodOutcome) → IsPeriodOutcome circuit tech outcome → (text : List ℕ)
-      → text ≡ text_of (period_lines circuit outcome)
-      → IsTextOf forms.Period (HasNoPeriod circuit tech) circuit (outcome_status outcome) text
-  period_is (periods.Found at_equal period shown) found text spelled = record {
-    lines = period_lines circuit (periods.Found at_equal period shown);
-    each = found_lines_are circuit tech at_equal period shown;
-    some = omega arith;
-    counted = counted_line (counted_line
-        (subst (AreCounted (1 ∷ [])) (append-nil (show_lines circuit shown))
-        (counted_show circuit tech First period shown [] found.shown counted_none)));
-    says = found_says forms.Period refl period found.least;
-    spelled = spelled;
-  }
-  period_is (periods.Never cycle) never text spelled =
-      never_text 0 forms.Period refl cycle never text spelled
+  -- what is found with status 0, or a cycle that forbids every period
+  pub found_or_never : (moves : ℕ) (form : Form) → looks_for_period form ≡ true
+      → (Found : List ℕ → Type 0)
+      → ((text : List ℕ) → Found text
+      → IsTextWith moves form (HasNoPeriod circuit tech) circuit 0 text)
+      → (status : ℕ) (text : List ℕ)
+      → IsFoundOrNever Found (IsNeverText circuit tech) status text
+      → IsTextWith moves form (HasNoPeriod circuit tech) circuit status text
+  found_or_never moves form looks Found found zero text says = found text says
+  found_or_never moves form looks Found found (suc zero) text says =
+      never_text moves form looks says.cycle says.forbids text says.spelled
+  found_or_never moves form looks Found found (suc (suc more)) text says = absurd says
 
+  -- the least period that any arrivals allow
   pub period_text : (status : ℕ) (text : List ℕ) → IsPeriodText circuit tech status text
       → IsTextOf forms.Period (HasNoPeriod circuit tech) circuit status text
-  period_text status text says =
-      with_status says.status_is (period_is says.outcome says.least text says.spelled)
-
-  -- the least schedule at that period
-  schedule_is : (outcome : ScheduleOutcome) → IsScheduleOutcome circuit tech outcome
-      → (text : List ℕ) → text ≡ text_of (schedule_lines circuit outcome)
-      → IsTextOf forms.Schedule (HasNoPeriod circuit tech) circuit
-      (outcome_status (period_outcome outcome)) text
-  schedule_is (schedules.Found at_equal period shown schedule slacks) found text spelled = record {
-    lines = schedule_lines circuit (schedules.Found at_equal period shown schedule slacks);
-    each = scheduled_lines_are circuit tech at_equal period shown schedule slacks;
+  period_text = found_or_never 0 forms.Period refl (IsLeastText circuit tech) (λ text says. record {
+    lines = found_lines circuit says.zero says.period says.shown;
+    each = found_lines_are circuit tech says.zero says.period says.shown;
     some = omega arith;
     counted = counted_line (counted_line
-        (counted_show circuit tech First period shown [] found.found.shown
-        (counted_registers circuit schedule slacks found.least.registers)));
-    says = found_says forms.Schedule refl period found.found.least;
-    spelled = spelled;
-  }
-  schedule_is (schedules.Never cycle) never text spelled =
-      never_text 0 forms.Schedule refl cycle never text spelled
+        (subst (AreCounted (1 ∷ [])) (append-nil (show_lines circuit says.shown))
+        (counted_show circuit tech First says.period says.shown [] says.found.shown counted_none)));
+    says = found_says forms.Period refl says.period says.found.least;
+    spelled = says.spelled;
+  })
 
+  -- the least schedule at that period
   pub schedule_text : (status : ℕ) (text : List ℕ) → IsScheduleText circuit tech status text
       → IsTextOf forms.Schedule (HasNoPeriod circuit tech) circuit status text
-  schedule_text status text says =
-      with_status says.status_is (schedule_is says.outcome says.least text says.spelled)
+  schedule_text = found_or_never 0 forms.Schedule refl (IsScheduledText circuit tech)
+      (λ text says. record {
+        lines = found_lines circuit says.zero says.period says.shown
+            ++ register_lines circuit says.schedule says.slacks;
+        each = scheduled_lines_are circuit tech says.zero says.period says.shown says.schedule
+            says.slacks;
+        some = omega arith;
+        counted = counted_line (counted_line
+            (counted_show circuit tech First says.period says.shown [] says.found.found.shown
+            (counted_registers circuit says.schedule says.slacks says.found.least.registers)));
+        says = found_says forms.Schedule refl says.period says.found.found.least;
+        spelled = says.spelled;
+      })
 
 -- ---- of a problem
 
@@ -167,17 +160,6 @@ module _ (problem : Problem) where
   abbrev IsProblemText : (moves : ℕ) → Form → (status : ℕ) → List ℕ → Type 0
   IsProblemText moves form status text =
       IsTextWith moves form (HasNoPeriod problem.circuit problem.tech) problem.circuit status text
-
-  -- what was found, or a cycle that forbids every period
-  found_or_never : (moves : ℕ) (form : Form) → looks_for_period form ≡ true
-      → (Found : List ℕ → Type 0) → ((text : List ℕ) → Found text → IsProblemText moves form 0 text)
-      → (status : ℕ) (text : List ℕ) → IsFoundOrNever problem Found status text
-      → IsProblemText moves form status text
-  found_or_never moves form looks Found found zero text says = found text says
-  found_or_never moves form looks Found found (suc zero) text says =
-      never_text problem.circuit problem.tech moves form looks says.cycle says.forbids text
-      says.spelled
-  found_or_never moves form looks Found found (suc (suc more)) text says = absurd says
 
   -- the report of a clock tree
   tree_text : (form : Form) → looks_for_period form ≡ true → plan_of 0 form ≡ report_plan Second
@@ -201,14 +183,14 @@ module _ (problem : Problem) where
   -- by its own topology
   pub synth_text : (status : ℕ) (text : List ℕ) → IsSynthText problem status text
       → IsProblemText 0 forms.Synth status text
-  synth_text = found_or_never 0 forms.Synth refl
+  synth_text = found_or_never problem.circuit problem.tech 0 forms.Synth refl
       (λ text. (is : IsSynthesisText problem text) × IsCheckable problem is.tree.report)
       (λ text says. tree_text forms.Synth refl refl text says.0.tree)
 
   -- or by one that is given
   pub embed_text : (topology : Topology) (status : ℕ) (text : List ℕ)
       → IsEmbedText problem topology status text → IsProblemText 0 forms.Embed status text
-  embed_text topology = found_or_never 0 forms.Embed refl
+  embed_text topology = found_or_never problem.circuit problem.tech 0 forms.Embed refl
       (λ text. (is : IsEmbeddingText problem topology text)
       × IsCheckable problem is.tree.report)
       (λ text says. tree_text forms.Embed refl refl text says.0.tree)
@@ -251,8 +233,8 @@ module _ (problem : Problem) where
 
   pub moves_text : (moves : List Move) (status : ℕ) (text : List ℕ)
       → IsMovesText problem moves status text → IsProblemText (length moves) forms.Moves status text
-  moves_text moves = found_or_never (length moves) forms.Moves refl (IsWiresText problem moves)
-      (wires_text moves)
+  moves_text moves = found_or_never problem.circuit problem.tech (length moves) forms.Moves refl
+      (IsWiresText problem moves) (wires_text moves)
 
   -- the summary of one
   summary_text : (registers : ℕ) (text : List ℕ) → IsSummaryText registers problem text
@@ -271,8 +253,8 @@ module _ (problem : Problem) where
 
   pub demo_text : (registers status : ℕ) (text : List ℕ)
       → IsDemoText registers problem status text → IsProblemText 0 forms.Demo status text
-  demo_text registers = found_or_never 0 forms.Demo refl (IsSummaryText registers problem)
-      (summary_text registers)
+  demo_text registers = found_or_never problem.circuit problem.tech 0 forms.Demo refl
+      (IsSummaryText registers problem) (summary_text registers)
 
 -- ---- of several corners
 
@@ -304,32 +286,30 @@ module _ (circuit : Circuit) (techs : List Tech) where
       let same = size_same period.den (omega (arith, ints, some)) in
       omega (arith, ints, some, same)) least.common
 
-  corners_is : (outcome : CornersOutcome) → IsCornersOutcome circuit techs outcome
-      → (text : List ℕ) → text ≡ text_of (corners_lines circuit outcome)
-      → IsTextOf forms.Corners (HasNoCommonPeriod circuit techs) circuit
-      (corners_status outcome) text
-  corners_is (outcomes.Found period shown corners schedule) serves text spelled = record {
-    lines = corners_lines circuit (outcomes.Found period shown corners schedule);
-    each = corners_lines_are circuit (outcomes.Found period shown corners schedule);
-    some = omega arith;
-    counted = counted_line (counted_shown period shown corners serves.shown
-        (counted_arrivals circuit schedule serves.arrivals.registers));
-    says = inl (refl, admits period serves.least);
-    spelled = spelled;
-  }
-  corners_is (outcomes.Never cycle corners) serves text spelled = record {
-    lines = corners_lines circuit (outcomes.Never cycle corners);
-    each = corners_lines_are circuit (outcomes.Never cycle corners);
-    some = omega arith;
-    counted = counted_line (subst (AreCounted (1 ∷ []))
-        (append-nil (cornered_lines circuit cycle corners))
-        (counted_below (cornered_line_at circuit cycle corners) (length cycle)
-        (few_of_corners cycle corners serves.of_corners serves.forbids.is_cycle) counted_none));
-    says = inr (refl, none_where_forbidden circuit techs cycle corners serves);
-    spelled = spelled;
-  }
-
+  -- the least schedule that serves them, or a cycle that forbids every period
   pub corners_text : (status : ℕ) (text : List ℕ) → IsCornersText circuit techs status text
       → IsTextOf forms.Corners (HasNoCommonPeriod circuit techs) circuit status text
-  corners_text status text says =
-      with_status says.status_is (corners_is says.outcome says.serves text says.spelled)
+  corners_text zero text says = record {
+    lines = corners_lines circuit
+        (outcomes.Found says.period says.shown says.corners says.schedule);
+    each = corners_lines_are circuit
+        (outcomes.Found says.period says.shown says.corners says.schedule);
+    some = omega arith;
+    counted = counted_line (counted_shown says.period says.shown says.corners says.found.shown
+        (counted_arrivals circuit says.schedule says.found.arrivals.registers));
+    says = inl (refl, admits says.period says.found.least);
+    spelled = says.spelled;
+  }
+  corners_text (suc zero) text says = record {
+    lines = corners_lines circuit (outcomes.Never says.cycle says.corners);
+    each = corners_lines_are circuit (outcomes.Never says.cycle says.corners);
+    some = omega arith;
+    counted = counted_line (subst (AreCounted (1 ∷ []))
+        (append-nil (cornered_lines circuit says.cycle says.corners))
+        (counted_below (cornered_line_at circuit says.cycle says.corners) (length says.cycle)
+        (few_of_corners says.cycle says.corners says.forbids.of_corners
+        says.forbids.forbids.is_cycle) counted_none));
+    says = inr (refl, none_where_forbidden circuit techs says.cycle says.corners says.forbids);
+    spelled = says.spelled;
+  }
+  corners_text (suc (suc more)) text says = absurd says

@@ -1,8 +1,9 @@
 -- A text that spells the report of a clock tree, and the summary of one.
-use Rattle.answer_texts.proofs.Vocabulary.{◌≡◌, ℕ, List, refl, Problem, Report, Topology, text_of, report_lines, summary_lines, IsSummaryText, IsTreeText, IsSynthesisText, IsEmbeddingText, IsCheckable}
-use Rattle.cts_model.specs.Vocabulary.{IsShown}
+use Rattle.answer_texts.proofs.Vocabulary.{◌≡◌, ◌≤◌, ℕ, List, refl, All-weaker, Problem, Report, Topology, text_of, report_lines, summary_lines, IsSummaryText, IsTreeText, IsSynthesisText, IsEmbeddingText, IsCheckable}
+use Rattle.cts_model.specs.Vocabulary.{IsShown, IsSmallWire}
 use Rattle.cert_check.specs.declared.verdict.Verdict.TheVariants.{Shown}
 use Rattle.cert_check.specs.Verdicts.{IsVerdict}
+use Rattle.cert_check.proofs.JudgedLemmas.{judged_shown}
 use Rattle.outcomes.specs.Syntheses.{IsReportWith, IsReportOf}
 use Rattle.outcomes.specs.ShownCycles.{ShowsFromLowest}
 
@@ -20,6 +21,8 @@ module _ (problem : Problem) (report : Report) (lowest : ShowsFromLowest report.
     is = made.is;
     shows = made.shows;
     lowest = lowest;
+    few = All-weaker IsSmallWire (λ wire. wire.used ≤ 5) (λ wire small. small.few) report.wires
+        made.bounds.tree.wires;
   }
 
   -- that by the topology that is given
@@ -29,7 +32,7 @@ module _ (problem : Problem) (report : Report) (lowest : ShowsFromLowest report.
   unfolding tree_spelled
   embedding_spelled topology made text spelled = (
     record { tree = tree_spelled topology made text spelled; given = made.given },
-    record { bounds = made.bounds; shown = shown },
+    record { bounds = made.bounds; shown = judged_shown problem report shown },
   )
 
   module _ (made : IsReportOf problem report) where
@@ -43,7 +46,7 @@ module _ (problem : Problem) (report : Report) (lowest : ShowsFromLowest report.
         tree = tree_spelled report.topology made.made text spelled;
         greedy = made.greedy;
       },
-      record { bounds = made.made.bounds; shown = shown },
+      record { bounds = made.made.bounds; shown = judged_shown problem report shown },
     )
 
     -- so the summary of a report that the checker shows is one of that tree

@@ -35,7 +35,8 @@ pub use Rattle.answer_texts.specs.CornerTexts.{cornered_line_at, cornered_lines,
 pub use Rattle.answer_texts.specs.DemoTexts.{summary_lines, IsSummaryText, IsDemoText}
 pub use Rattle.answer_texts.specs.Headline.{IsTreeText, IsSynthesisText, IsEmbeddingText}
 pub use Rattle.answer_texts.specs.MarginTexts.{margin_lines, IsMarginText}
-pub use Rattle.answer_texts.specs.PeriodTexts.{period_lines, never_lines, outcome_status, IsPeriodText, found_lines}
-pub use Rattle.answer_texts.specs.ScheduleTexts.{schedule_lines, IsScheduleText, scheduled_line_at, register_lines}
-pub use Rattle.answer_texts.specs.SynthTexts.{IsCheckable, IsFoundOrNever, IsSynthText, IsEmbedText, synthesis_lines, synthesis_status}
+pub use Rattle.answer_texts.specs.NeverTexts.{never_lines, IsNeverText, IsFoundOrNever}
+pub use Rattle.answer_texts.specs.PeriodTexts.{period_lines, outcome_status, IsLeastText, IsPeriodText, found_lines}
+pub use Rattle.answer_texts.specs.ScheduleTexts.{schedule_lines, IsScheduledText, IsScheduleText, scheduled_line_at, register_lines}
+pub use Rattle.answer_texts.specs.SynthTexts.{IsCheckable, IsSynthText, IsEmbedText, synthesis_lines, synthesis_status}
 pub use Rattle.answer_texts.specs.ZeroTexts.{zero_lines, IsZeroText}

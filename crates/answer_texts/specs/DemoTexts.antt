@@ -7,7 +7,7 @@ use Rattle.cert_check.specs.declared.verdict.Verdict.TheVariants.{Shown}
 use Rattle.cert_check.specs.Verdicts.{IsVerdict}
 use Rattle.answer_texts.specs.CheckTexts.{shown_line}
 use Rattle.answer_texts.specs.Headline.{IsSynthesisText}
-use Rattle.answer_texts.specs.SynthTexts.{IsFoundOrNever}
+use Rattle.answer_texts.specs.NeverTexts.{IsNeverText, IsFoundOrNever}
 
 -- how many registers there are, the period in ticks, the wire in length units, and that the report
 -- is shown
@@ -27,5 +27,5 @@ pub record IsSummaryText (registers : ℕ) (problem : Problem) (text : List ℕ)
 
 -- the bytes are a text for the problem of a demonstration, with its status
 abbrev pub IsDemoText : (registers : ℕ) → Problem → (status : ℕ) → List ℕ → Type 0
-IsDemoText registers problem status text =
-    IsFoundOrNever problem (IsSummaryText registers problem) status text
+IsDemoText registers problem = IsFoundOrNever (IsSummaryText registers problem)
+    (IsNeverText problem.circuit problem.tech)

@@ -1,7 +1,7 @@
 -- What a text of the commands `synth` and `embed` says with status 0: a clock tree whose period,
 -- schedule and wire are the least, and what shows them. Fishburn, "Clock Skew Optimization", 1990;
 -- Boese and Kahng 1992; Chao and others 1992.
-use Rattle.std.specs.Prelude.{◌≡◌, ℕ, List}
+use Rattle.std.specs.Prelude.{◌≡◌, ◌≤◌, ℕ, List, All}
 use Rattle.answer_texts.specs.Types.{Problem, Report, Second, Topology}
 use Rattle.cts_model.specs.Vocabulary.{IsGreedy, IsOfSize, report_lines, sinks_in, text_of, grid_of}
 use Rattle.outcomes.specs.ShownCycles.{ShowsFromLowest}
@@ -18,6 +18,7 @@ pub record IsTreeText (problem : Problem) (text : List ℕ) : Type 0 where
   pub is : IsSynthesis problem report
   pub shows : ShowsSynthesis problem report
   pub lowest : ShowsFromLowest report.shown
+  pub few : All (λ wire. wire.used ≤ 5) report.wires
 
 -- so they do, and the topology is the greedy one
 pub record IsSynthesisText (problem : Problem) (text : List ℕ) : Type 0 where

@@ -6,6 +6,7 @@ pub mod Endings
 pub mod Headline
 pub mod MarginTexts
 pub mod MoveTexts
+pub mod NeverTexts
 pub mod PeriodTexts
 pub mod ScheduleTexts
 pub mod SynthTexts

@@ -7,7 +7,7 @@ use Rattle.cts_model.specs.Vocabulary.{IsLeastWire, RealisesOffsets, embedding_o
 use Rattle.move_session.specs.declared.moves.Move.{Move}
 use Rattle.outcomes.specs.Syntheses.{IsPlacedTree}
 use Rattle.report_text.specs.Values.{wire_line}
-use Rattle.answer_texts.specs.SynthTexts.{IsFoundOrNever}
+use Rattle.answer_texts.specs.NeverTexts.{IsNeverText, IsFoundOrNever}
 
 -- so long is the tree of these merges over these sinks, each node at its chosen place with the
 -- least reach; it realises the offsets, and no embedding of the merges that does has less wire
@@ -55,5 +55,5 @@ pub record IsWiresText (problem : Problem) (moves : List Move) (text : List ℕ)
 
 -- the bytes are a text for the problem and these moves, with its status
 abbrev pub IsMovesText : Problem → List Move → (status : ℕ) → List ℕ → Type 0
-IsMovesText problem moves status text =
-    IsFoundOrNever problem (IsWiresText problem moves) status text
+IsMovesText problem moves = IsFoundOrNever (IsWiresText problem moves)
+    (IsNeverText problem.circuit problem.tech)

@@ -3,12 +3,14 @@
 use Rattle.std.specs.Prelude.{◌≡◌, ℕ, List, [], ◌∷◌, codes}
 use Rattle.std.specs.Fmt.{signed_decimal}
 use Rattle.cts_base.specs.declared.fraction.Fraction.{Fraction}
-use Rattle.answer_texts.specs.Types.{Circuit, Constraint, PeriodShow, Tech, ZeroSkew}
-use Rattle.cts_model.specs.Vocabulary.{Words, text_of, period_line, cycle_lines, show_lines}
+use Rattle.answer_texts.specs.Types.{Circuit, PeriodShow, Tech, ZeroSkew}
+use Rattle.cts_model.specs.Vocabulary.{Words, text_of, period_line, show_lines}
 use Rattle.cts_model.specs.declared.timing.ZeroSkew.TheVariants as zeros
 use Rattle.outcomes.specs.declared.period.PeriodOutcome.{PeriodOutcome}
 use Rattle.outcomes.specs.declared.period.PeriodOutcome.TheVariants.{Found, Never}
-use Rattle.outcomes.specs.PeriodOutcomes.{IsPeriodOutcome, BeginsLowest}
+use Rattle.outcomes.specs.PeriodOutcomes.{IsFound}
+use Rattle.outcomes.specs.ShownCycles.{ShowsFromLowest}
+use Rattle.answer_texts.specs.NeverTexts.{never_lines, IsNeverText, IsFoundOrNever}
 
 -- the least period at equal arrivals, in ticks
 abbrev pub zero_line : ZeroSkew → Words
@@ -21,10 +23,6 @@ abbrev pub found_lines : Circuit → ZeroSkew → Fraction → PeriodShow → Li
 found_lines circuit zero period shown =
     period_line period ∷ zero_line zero ∷ show_lines circuit shown
 
--- a cycle that forbids every period
-abbrev pub never_lines : Circuit → List Constraint → List Words
-never_lines circuit cycle = (codes "never" ∷ []) ∷ cycle_lines circuit cycle
-
 -- the lines for an outcome
 abbrev pub period_lines : Circuit → PeriodOutcome → List Words
 period_lines circuit (Found zero period shown) = found_lines circuit zero period shown
@@ -35,12 +33,16 @@ abbrev pub outcome_status : PeriodOutcome → ℕ
 outcome_status (Found zero period shown) = 0
 outcome_status (Never cycle) = 1
 
--- the bytes are a text for the least period of this circuit, with its status; the cycle begins at
--- its lowest register
-pub record IsPeriodText (circuit : Circuit) (tech : Tech) (status : ℕ)
-    (text : List ℕ) : Type 0 where
-  pub outcome : PeriodOutcome
-  pub least : IsPeriodOutcome circuit tech outcome
-  pub lowest : BeginsLowest outcome
-  pub status_is : status ≡ outcome_status outcome
-  pub spelled : text ≡ text_of (period_lines circuit outcome)
+-- the bytes say what was found; the cycle that shows the period begins at its lowest register
+pub record IsLeastText (circuit : Circuit) (tech : Tech) (text : List ℕ) : Type 0 where
+  pub zero : ZeroSkew
+  pub period : Fraction
+  pub shown : PeriodShow
+  pub found : IsFound circuit tech zero period shown
+  pub lowest : ShowsFromLowest shown
+  pub spelled : text ≡ text_of (found_lines circuit zero period shown)
+
+-- the bytes are a text for the least period of this circuit, with its status
+abbrev pub IsPeriodText : Circuit → Tech → (status : ℕ) → List ℕ → Type 0
+IsPeriodText circuit tech =
+    IsFoundOrNever (IsLeastText circuit tech) (IsNeverText circuit tech)

@@ -2,13 +2,15 @@
 -- reach each register and what the register has to spare. Fishburn, "Clock Skew Optimization",
 -- 1990.
 use Rattle.std.specs.Prelude.{◌≡◌, ◌^◌, ℕ, pos, ◌≤ℤ◌, List, ◌∷◌, ◌++◌, All, length, None, slice_index_or, codes}
-use Rattle.answer_texts.specs.Types.{Circuit, Schedule, Slack, Tech}
+use Rattle.cts_base.specs.declared.fraction.Fraction.{Fraction}
+use Rattle.answer_texts.specs.Types.{Circuit, PeriodShow, Schedule, Slack, Tech, ZeroSkew}
 use Rattle.cts_model.specs.Vocabulary.{IsBelow, lines_below, Words, text_of, count_line, register_line, arrival_of}
 use Rattle.outcomes.specs.declared.scheduling.ScheduleOutcome.{ScheduleOutcome}
 use Rattle.outcomes.specs.declared.scheduling.ScheduleOutcome.TheVariants.{Found, Never}
-use Rattle.outcomes.specs.PeriodOutcomes.{BeginsLowest}
-use Rattle.outcomes.specs.ScheduleOutcomes.{period_outcome, IsScheduleOutcome}
-use Rattle.answer_texts.specs.PeriodTexts.{outcome_status, found_lines, never_lines}
+use Rattle.outcomes.specs.ScheduleOutcomes.{IsScheduled}
+use Rattle.outcomes.specs.ShownCycles.{ShowsFromLowest}
+use Rattle.answer_texts.specs.NeverTexts.{never_lines, IsNeverText, IsFoundOrNever}
+use Rattle.answer_texts.specs.PeriodTexts.{found_lines}
 
 -- arrivals below 10^19 over a denominator from 1 to 4,097
 pub record IsSmallSchedule (schedule : Schedule) : Type 0 where
@@ -33,12 +35,19 @@ schedule_lines circuit (Found zero period shown schedule slacks) =
     found_lines circuit zero period shown ++ register_lines circuit schedule slacks
 schedule_lines circuit (Never cycle) = never_lines circuit cycle
 
--- the bytes are the text for the least schedule of this circuit at its least period, with its
--- status; the cycle begins at its lowest register
-pub record IsScheduleText (circuit : Circuit) (tech : Tech) (status : ℕ)
-    (text : List ℕ) : Type 0 where
-  pub outcome : ScheduleOutcome
-  pub least : IsScheduleOutcome circuit tech outcome
-  pub lowest : BeginsLowest (period_outcome outcome)
-  pub status_is : status ≡ outcome_status (period_outcome outcome)
-  pub spelled : text ≡ text_of (schedule_lines circuit outcome)
+-- the bytes say what was found; the cycle that shows the period begins at its lowest register
+pub record IsScheduledText (circuit : Circuit) (tech : Tech) (text : List ℕ) : Type 0 where
+  pub zero : ZeroSkew
+  pub period : Fraction
+  pub shown : PeriodShow
+  pub schedule : Schedule
+  pub slacks : List Slack
+  pub found : IsScheduled circuit tech zero period shown schedule slacks
+  pub lowest : ShowsFromLowest shown
+  pub spelled : text
+      ≡ text_of (found_lines circuit zero period shown ++ register_lines circuit schedule slacks)
+
+-- the bytes are a text for the least schedule of this circuit at its least period, with its status
+abbrev pub IsScheduleText : Circuit → Tech → (status : ℕ) → List ℕ → Type 0
+IsScheduleText circuit tech =
+    IsFoundOrNever (IsScheduledText circuit tech) (IsNeverText circuit tech)

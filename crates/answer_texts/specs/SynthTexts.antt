@@ -1,43 +1,31 @@
 -- What the commands `synth` and `embed` print: the report of a clock tree, or what forbids every
 -- period. Fishburn, "Clock Skew Optimization", 1990.
-use Rattle.std.specs.Prelude.{◌≡◌, ℕ, zero, suc, List}
-use Rattle.answer_texts.specs.Types.{Circuit, Constraint, Problem, Report, Tech, Topology}
-use Rattle.cts_model.specs.Vocabulary.{IsForbidding, IsShown, Words, text_of, IsWithinBounds, report_lines}
+use Rattle.std.specs.Prelude.{ℕ, List}
+use Rattle.answer_texts.specs.Types.{Circuit, Problem, Report, Topology}
+use Rattle.cts_model.specs.Vocabulary.{Words, IsWithinBounds, report_lines}
+use Rattle.cert_check.specs.Verdicts.{IsVerdict}
+use Rattle.cert_check.specs.declared.verdict.Verdict.TheVariants.{Shown}
 use Rattle.outcomes.specs.declared.synthesis.Outcome.{Outcome}
 use Rattle.outcomes.specs.declared.synthesis.Outcome.TheVariants.{Done, Never}
-use Rattle.outcomes.specs.SynthesisOutcomes.{BeginsLowest}
 use Rattle.answer_texts.specs.Headline.{IsSynthesisText, IsEmbeddingText}
-use Rattle.answer_texts.specs.PeriodTexts.{never_lines}
-
--- the bytes are a text for a cycle that forbids every period; it begins at its lowest register
-pub record IsNeverText (circuit : Circuit) (tech : Tech) (text : List ℕ) : Type 0 where
-  pub cycle : List Constraint
-  pub forbids : IsForbidding circuit tech cycle
-  pub lowest : BeginsLowest (Never cycle)
-  pub spelled : text ≡ text_of (never_lines circuit cycle)
-
--- the bytes say with status 0 what was found, and with status 1 that no period is admitted
-abbrev pub IsFoundOrNever : Problem → (Found : List ℕ → Type 0) → (status : ℕ) → List ℕ → Type 0
-IsFoundOrNever problem Found zero text = Found text
-IsFoundOrNever problem Found (suc zero) text = IsNeverText problem.circuit problem.tech text
-IsFoundOrNever problem Found (suc (suc more)) text = ⊥
+use Rattle.answer_texts.specs.NeverTexts.{never_lines, IsNeverText, IsFoundOrNever}
 
 -- `check` reads such a report from its lines, and shows it
 pub record IsCheckable (problem : Problem) (report : Report) : Type 0 where
   pub bounds : IsWithinBounds problem.tech report
-  pub shown : IsShown problem report
+  pub shown : IsVerdict problem report Shown
 
 -- the bytes are a text for the problem, with its status; `check` shows a tree's report
 abbrev pub IsSynthText : Problem → (status : ℕ) → List ℕ → Type 0
-IsSynthText problem status text = IsFoundOrNever problem
+IsSynthText problem = IsFoundOrNever
     (λ bytes. (is : IsSynthesisText problem bytes) × IsCheckable problem is.tree.report)
-    status text
+    (IsNeverText problem.circuit problem.tech)
 
 -- or for the problem by this topology
 abbrev pub IsEmbedText : Problem → Topology → (status : ℕ) → List ℕ → Type 0
-IsEmbedText problem topology status text = IsFoundOrNever problem
+IsEmbedText problem topology = IsFoundOrNever
     (λ bytes. (is : IsEmbeddingText problem topology bytes) × IsCheckable problem is.tree.report)
-    status text
+    (IsNeverText problem.circuit problem.tech)
 
 -- the lines for an outcome
 abbrev pub synthesis_lines : Circuit → Outcome → List Words

@@ -13,7 +13,8 @@ pub use Rattle.answer_texts.specs.CornerTexts.{cornered_line, cornered_line_at, 
 pub use Rattle.answer_texts.specs.DemoTexts.{summary_lines}
 pub use Rattle.answer_texts.specs.Endings.{ending_status}
 pub use Rattle.answer_texts.specs.MarginTexts.{margin_line, margin_lines, spared_lines}
-pub use Rattle.answer_texts.specs.PeriodTexts.{never_lines, zero_line, found_lines, period_lines, outcome_status}
+pub use Rattle.answer_texts.specs.NeverTexts.{never_lines}
+pub use Rattle.answer_texts.specs.PeriodTexts.{zero_line, found_lines, period_lines, outcome_status}
 pub use Rattle.answer_texts.specs.ScheduleTexts.{IsSmallSchedule, scheduled_line_at, register_lines, schedule_lines}
 pub use Rattle.answer_texts.specs.SynthTexts.{synthesis_lines, synthesis_status}
 pub use Rattle.answer_texts.specs.Types.{Tech, Topology}

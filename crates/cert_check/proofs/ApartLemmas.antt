@@ -1,5 +1,5 @@
 -- What two pieces of a wire have in common, by their coordinates.
-use Rattle.cert_check.proofs.Vocabulary.{◌≡◌, ℕ, ◌<◌, ℤ, pos, ◌*ℤ◌, ◌≤ℤ◌, ◌<ℤ◌, inl, inr, ap, ◌∙◌, arith, ints, clamps, by_lt_z, Point, IsBetween, AreApart, Share, greatest_common, least_common, piece}
+use Rattle.cert_check.proofs.Vocabulary.{◌≡◌, ℕ, ◌<◌, ℤ, pos, ◌*ℤ◌, ◌≤ℤ◌, ◌<ℤ◌, inl, inr, ap, arith, ints, clamps, by_lt_z, Point, IsBetween, AreApart, Share, greatest_common, least_common, piece}
 use Rattle.std.specs.Int.{int_min}
 use Rattle.cts_model.proofs.ScaleLemmas.{scale_le, scale_lt, scale-max}
 

@@ -1,5 +1,5 @@
 -- Constraints by the delays of their pairs.
-use Rattle.cert_check.proofs.Vocabulary.{◌≡◌, ◌↔◌, ℕ, ℤ, ◌+ℤ◌, ◌-ℤ◌, Bool, true, false, Some, ◌∙◌, arith, MatchBool, ints, Circuit, Constraint, Tech, PairDelay, IsConstraintOf, IsHoldConstraint, IsSetupConstraint, IsDelayBetween, IsJoinedBy, pair_of, weight_by}
+use Rattle.cert_check.proofs.Vocabulary.{◌≡◌, ◌↔◌, ℕ, ℤ, ◌+ℤ◌, ◌-ℤ◌, Bool, true, false, Some, arith, MatchBool, ints, Circuit, Constraint, Tech, PairDelay, IsConstraintOf, IsHoldConstraint, IsSetupConstraint, IsDelayBetween, IsJoinedBy, pair_of, weight_by}
 
 module _ (circuit : Circuit) (tech : Tech) (from to : ℕ) (weight : ℤ) where
   -- a pair's greatest delay gives the weight exactly where it is that of a setup constraint

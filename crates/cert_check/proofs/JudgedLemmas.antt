@@ -129,9 +129,23 @@ told problem report result cycle_is sinks_are source_is =
     Decides (IsVerdictBy problem report has.0 has.1 has.2) result)
     (λ i. (cycle_is i, sinks_are i, source_is i))
 
+-- where each judgement holds, one verdict is that the report is shown
+pub judged_shown : (problem : Problem) (report : Report) → IsShown problem report
+    → IsVerdict problem report Shown
+judged_shown problem report shown =
+    let timing : IsShownTiming problem.circuit problem.tech report = shown.timing in
+    let tree : IsShownTree (sinks_in problem report) (source_in problem report) report =
+    shown.tree in
+    passed timing.from_floor (passed timing.together (passed timing.of_circuit
+    (passed timing.gives (passed timing.meets (passed tree.shape (passed tree.long_enough
+    (passed tree.drawn (passed tree.skewed (passed tree.reaches (passed tree.total
+    (passed timing.slacks (passed (λ place within second. (shown.least second).paths place within)
+    (passed (λ register within second. (shown.least second).earliest register within)
+    refl)))))))))))))
+
 module _ (problem : Problem) (report : Report) {verdict : Verdict}
     (judged : IsVerdict problem report verdict) where
-  -- where each judgement holds, the verdict is that the report is shown
+  -- and so is any other
   verdict_shown : IsShown problem report → verdict ≡ Shown
   verdict_shown shown =
       let timing : IsShownTiming problem.circuit problem.tech report = shown.timing in

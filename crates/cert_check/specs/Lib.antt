@@ -6,6 +6,7 @@ pub mod GivenConstraints
 pub mod Judged
 pub mod JudgedReports
 pub mod ReachParts
+pub mod Reasons
 pub mod Verdicts
 pub mod Parents
 pub mod DrawnParts

@@ -24,4 +24,4 @@ mod slacks;
 mod verdict;
 
 pub use checking::check;
-pub use verdict::{Reason, Verdict};
+pub use verdict::{Reason, Subject, Verdict};

@@ -1,4 +1,5 @@
 ghost use Rattle.std.specs.Prelude.{◌≡◌};
+ghost use Rattle.cert_check.specs.Reasons.{reason_numbers};
 ghost use Rattle.cert_check.specs.declared.verdict.Stop.TheVariants as stop;
 
 use cts_base::NoMemory;
@@ -48,6 +49,41 @@ pub enum Reason {
     PathBroken(u32),
     /// The arrival at this register is negative, or its lead doesn't show that none is earlier.
     NotLeast(u32),
+}
+
+/// What a reason is about. Numbers are counted from 0.
+#[derive(Clone, Copy, Debug, PartialEq, Eq)]
+pub enum Subject {
+    /// The report as a whole.
+    Whole,
+    /// A place of the cycle, a node of the tree, or an edge by its lower node.
+    Place(u32),
+    /// A register.
+    Register(u32),
+}
+
+impl Reason {
+    /// The reason's number, as the program prints it, and what it is about.
+    pub fn number_and_subject(self) -> (u32, Subject)
+        ensures { result ≡ reason_numbers self }
+    {
+        match self {
+            Reason::BelowFloor => (1, Subject::Whole),
+            Reason::CycleBroken(place) => (2, Subject::Place(place)),
+            Reason::NotOfCircuit(place) => (3, Subject::Place(place)),
+            Reason::CycleValue => (4, Subject::Whole),
+            Reason::ScheduleMisses(register) => (5, Subject::Register(register)),
+            Reason::TreeShape(node) => (6, Subject::Place(node)),
+            Reason::TooShort(edge) => (7, Subject::Place(edge)),
+            Reason::WireSum(edge) => (8, Subject::Place(edge)),
+            Reason::SkewDiffers(register) => (9, Subject::Register(register)),
+            Reason::Unshown(node) => (10, Subject::Place(node)),
+            Reason::Total => (11, Subject::Whole),
+            Reason::SlackDiffers(register) => (12, Subject::Register(register)),
+            Reason::PathBroken(place) => (13, Subject::Place(place)),
+            Reason::NotLeast(register) => (14, Subject::Register(register)),
+        }
+    }
 }
 
 /// What stops the judgement of a report.

@@ -1,10 +1,10 @@
 //! What the text of a report comes to.
 
 ghost use Rattle.std.specs.Prelude.{◌≡◌, ◌⊎◌};
-ghost use Rattle.cts_c.specs.Findings.{judged_status, fault_numbers, reason_numbers, finding_of};
+ghost use Rattle.cts_c.specs.Findings.{judged_status, place_in, finding_of};
 
 use crate::finding::Finding;
-use cert_check::Reason;
+use cert_check::{Reason, Subject};
 use report_text::ReportFault;
 
 /// What the text of a report, whoever made it, comes to.
@@ -44,7 +44,7 @@ impl Judged {
                 place: 0,
             },
             Judged::Faulty(fault) => {
-                let (number, place) = fault_numbers(fault);
+                let (number, place) = fault.number_and_line();
                 Finding {
                     kind: 2,
                     number,
@@ -52,50 +52,23 @@ impl Judged {
                 }
             }
             Judged::Against(reason) => {
-                let (number, place) = reason_numbers(reason);
+                let (number, subject) = reason.number_and_subject();
                 Finding {
                     kind: 3,
                     number,
-                    place,
+                    place: place_in(subject),
                 }
             }
         }
     }
 }
 
-// The number of a fault, and its line.
-fn fault_numbers(fault: ReportFault) -> (u32, u32)
-    ensures { result ≡ fault_numbers fault }
+// The number of what a reason is about, and 0 for the whole report.
+fn place_in(subject: Subject) -> u32
+    ensures { result ≡ place_in subject }
 {
-    match fault {
-        ReportFault::BadLine(line) => (1, line),
-        ReportFault::UnknownRegister(line) => (2, line),
-        ReportFault::Missing(line) => (3, line),
-        ReportFault::Extra(line) => (4, line),
-        ReportFault::TooLarge(line) => (5, line),
-        ReportFault::NoMemory => (6, 0),
-        ReportFault::UnknownSignal(line) => (7, line),
-    }
-}
-
-// The number of a reason, and its place.
-fn reason_numbers(reason: Reason) -> (u32, u32)
-    ensures { result ≡ reason_numbers reason }
-{
-    match reason {
-        Reason::BelowFloor => (1, 0),
-        Reason::CycleBroken(place) => (2, place),
-        Reason::NotOfCircuit(place) => (3, place),
-        Reason::CycleValue => (4, 0),
-        Reason::ScheduleMisses(register) => (5, register),
-        Reason::TreeShape(node) => (6, node),
-        Reason::TooShort(node) => (7, node),
-        Reason::WireSum(node) => (8, node),
-        Reason::SkewDiffers(register) => (9, register),
-        Reason::Unshown(node) => (10, node),
-        Reason::Total => (11, 0),
-        Reason::SlackDiffers(register) => (12, register),
-        Reason::PathBroken(place) => (13, place),
-        Reason::NotLeast(register) => (14, register),
+    match subject {
+        Subject::Whole => 0,
+        Subject::Place(number) | Subject::Register(number) => number,
     }
 }

@@ -1,7 +1,6 @@
 -- What is asked for is answered with one status on the same contents, or refused with one, and not
 -- both.
-use Rattle.cts_program.proofs.Vocabulary.{ℕ, ◌≡◌, ◌≢◌, ◌<◌, ◌≤◌, ◌⊎◌, inl, inr, List, [], ◌∷◌, length, take, refl, ap, sym, ◌∙◌, subst, append-nil, arith, length-map, Reason, Command, Check, Demo, Form, command_form, Given, Failure, status_of, reason_failure_of, kinds_for, texts_for, judged_kinds, Tells, IsUnshown, RefusesTold, IsText, IsAnswer, IsRefusal, IsAccepted, IsStatusOf, FindsNoPeriod, subject_of, RefusesFirst, NamedFile, Request, request_of, Told, nothing, reported}
-use Rattle.cert_check.specs.declared.verdict.Reason.TheVariants as reasons
+use Rattle.cts_program.proofs.Vocabulary.{ℕ, ◌≡◌, ◌≢◌, ◌<◌, ◌≤◌, ◌⊎◌, inl, inr, List, [], ◌∷◌, length, take, refl, ap, sym, ◌∙◌, subst, append-nil, arith, length-map, Reason, Command, Check, Demo, Form, command_form, Given, Failure, status_of, kinds_for, texts_for, judged_kinds, Tells, IsUnshown, RefusesTold, IsText, IsAnswer, IsRefusal, IsAccepted, IsStatusOf, FindsNoPeriod, RefusesFirst, NamedFile, Request, request_of, Told, nothing, reported}
 use Rattle.cert_check.proofs.JudgedLemmas.{exactly_shown}
 use Rattle.command_line.specs.declared.table.Form.TheVariants as forms
 use Rattle.failure_lines.specs.declared.file_kind.FileKind.TheVariants as kinds
@@ -22,17 +21,12 @@ told_status : Form → ℕ
 told_status forms.Check = 7
 told_status form = 3
 
-reason_status : (reason : Reason) (subject : List ℕ)
-    → status_of (reason_failure_of reason subject) ≡ 7
-reason_status reasons.BelowFloor subject = refl
-reason_status reason subject = refl
-
 refusal_told : (form : Form) (told : Told) (failure : Failure) → RefusesTold form told failure
     → status_of failure ≡ told_status form
 unfolding told_status
 refusal_told forms.Check told failure (inl (pairs, many)) = absurd many
 refusal_told forms.Check (reported problem report) failure (inr (reason, is, verdict)) =
-    ap status_of is ∙ reason_status reason (subject_of problem.circuit reason)
+    ap status_of is
 refusal_told forms.Check told failure (inr unshown) = absurd unshown
 refusal_told form told failure (inl (pairs, many)) = ap status_of pairs
 refusal_told form told failure (inr unshown) = absurd unshown
@@ -107,7 +101,8 @@ module _ (laws : ReportLaws) (request : Request) where
   shown_or_not : (form : Form) (told : Told) (status : ℕ) (text : List ℕ) (failure : Failure)
       → IsText form request.given told status text → IsUnshown form told failure → ⊥
   shown_or_not forms.Check (reported problem report) status text failure (done, says)
-      (reason, is, verdict) = cc ((exactly_shown problem report verdict).1 says.shown)
+      (reason, is, verdict) = cc ((exactly_shown problem report verdict).1
+      ((exactly_shown problem report says.shown).0 refl))
   shown_or_not form told status text failure says unshown = absurd unshown
 
   -- what is answered isn't refused
@@ -210,7 +205,7 @@ accepted_refusal (Check bench tech pl report) contents known failure agree withi
   where
     at : (told : Told) → IsUnshown forms.Check told failure → status_of failure ≡ 7
     at (reported problem here) (reason, is, verdict) =
-        ap status_of is ∙ reason_status reason (subject_of problem.circuit reason)
+        ap status_of is
     at told unshown = absurd unshown
 accepted_refusal (Demo registers seed) contents known failure agree within accepted refusal =
     let (told, unshown) = judged_all (request_of (Demo registers seed)) contents known failure refl

@@ -1,33 +1,25 @@
 -- The register that a verdict on a report is about is one of the circuit.
-use Rattle.cts_program.proofs.Vocabulary.{◌≡◌, ◌<◌, ◌⊎◌, ℕ, length, inl, inr, refl, sym, ◌∙◌, subst, Problem, length-sinks_of, Reason, IsRegisterReason}
+use Rattle.cts_program.proofs.Vocabulary.{◌≡◌, ◌<◌, ℕ, length, inl, inr, refl, sym, ◌∙◌, subst, Problem, length-sinks_of, Reason, reason_numbers}
 use Rattle.cts_model.specs.declared.report.Report.{Report}
 use Rattle.cts_model.specs.Vocabulary.{IsOfSize, sinks_in}
 use Rattle.cert_check.specs.declared.verdict.Reason.TheVariants.{BelowFloor, CycleBroken, NotOfCircuit, CycleValue, ScheduleMisses, TreeShape, TooShort, WireSum, SkewDiffers, Unshown, Total, SlackDiffers, PathBroken, NotLeast}
+use Rattle.cert_check.specs.declared.verdict.Subject.TheVariants.{Register}
 use Rattle.cert_check.specs.declared.verdict.Verdict.TheVariants.{Not}
 use Rattle.cert_check.specs.Judged.{Judged, JudgedOnce}
 use Rattle.cert_check.specs.Verdicts.{IsVerdict}
 
--- the reason is about no register, or about one below this number
+-- a reason that is about a register is about one below this number
 abbrev IsAmong : ℕ → Reason → Type 0
-IsAmong registers reason = (register : ℕ) → IsRegisterReason reason register → register < registers
-
--- each of four reasons is about its register
-pub about_register : (reason : Reason) (register : ℕ)
-    → (reason ≡ ScheduleMisses register) ⊎ ((reason ≡ SkewDiffers register)
-    ⊎ ((reason ≡ SlackDiffers register) ⊎ (reason ≡ NotLeast register)))
-    → IsRegisterReason reason register
-about_register reason register (inl is) =
-    subst (λ r. IsRegisterReason r register) (sym is) refl
-about_register reason register (inr (inl is)) =
-    subst (λ r. IsRegisterReason r register) (sym is) refl
-about_register reason register (inr (inr (inl is))) =
-    subst (λ r. IsRegisterReason r register) (sym is) refl
-about_register reason register (inr (inr (inr is))) =
-    subst (λ r. IsRegisterReason r register) (sym is) refl
+IsAmong registers reason =
+    (register : ℕ) → (reason_numbers reason).1 ≡ Register register → register < registers
 
 -- two verdicts that are one have one reason
 one_reason : (reason other : Reason) → Not reason ≡ Not other → other ≡ reason
 one_reason reason other is = cc is
+
+-- two registers that are one have one number
+same_register : {register other : ℕ} → Register register ≡ Register other → register ≡ other
+same_register is = cc is
 
 module _ {registers : ℕ} {reason : Reason} {Next : Type 0} where
   -- a judgement that fails at a place has that reason, and else the next one decides
@@ -56,24 +48,24 @@ module _ (problem : Problem) (report : Report) (size : IsOfSize problem.circuit 
 
   -- the register of a verdict is one of the circuit
   pub reason_within : (reason : Reason) → IsVerdict problem report (Not reason)
-      → (register : ℕ) → IsRegisterReason reason register
+      → (register : ℕ) → (reason_numbers reason).1 ≡ Register register
       → register < length problem.circuit.registers
   reason_within reason =
-      by_once BelowFloor (λ register none. absurd none)
-      (by_place CycleBroken (λ place within register none. absurd none)
-      (by_place NotOfCircuit (λ place within register none. absurd none)
-      (by_once CycleValue (λ register none. absurd none)
-      (by_place ScheduleMisses (λ place within register is. subst (λ n. n < many) is within)
-      (by_place TreeShape (λ place within register none. absurd none)
-      (by_place TooShort (λ place within register none. absurd none)
-      (by_place WireSum (λ place within register none. absurd none)
+      by_once BelowFloor (λ register none. cc none)
+      (by_place CycleBroken (λ place within register none. cc none)
+      (by_place NotOfCircuit (λ place within register none. cc none)
+      (by_once CycleValue (λ register none. cc none)
+      (by_place ScheduleMisses (λ place within register is. subst (λ n. n < many) (same_register is) within)
+      (by_place TreeShape (λ place within register none. cc none)
+      (by_place TooShort (λ place within register none. cc none)
+      (by_place WireSum (λ place within register none. cc none)
       (by_place SkewDiffers (λ place within register is.
-      subst (λ n. n < many) is (subst (λ n. place < n) as_many_sinks within))
-      (by_place Unshown (λ place within register none. absurd none)
-      (by_once Total (λ register none. absurd none)
-      (by_place SlackDiffers (λ place within register is. subst (λ n. n < many) is within)
-      (by_place PathBroken (λ place within register none. absurd none)
-      (by_place NotLeast (λ place within register is. subst (λ n. n < many) is within)
+      subst (λ n. n < many) (same_register is) (subst (λ n. place < n) as_many_sinks within))
+      (by_place Unshown (λ place within register none. cc none)
+      (by_once Total (λ register none. cc none)
+      (by_place SlackDiffers (λ place within register is. subst (λ n. n < many) (same_register is) within)
+      (by_place PathBroken (λ place within register none. cc none)
+      (by_place NotLeast (λ place within register is. subst (λ n. n < many) (same_register is) within)
       (λ is. cc is))))))))))))))
     where
       many : ℕ

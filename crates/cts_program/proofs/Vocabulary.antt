@@ -5,7 +5,7 @@ pub use Rattle.std.proofs.lemmas.List.{take-append-drop, length-map, length-take
 pub use Rattle.std.proofs.lemmas.Result.{IfErr-weaker, IfOk-weaker, err_from_is_err_and}
 pub use Rattle.std.specs.List.{flat_map, All}
 pub use mir.Syntax.{w128}
-pub use Rattle.answer_texts.proofs.OutcomeTexts.{embed_says, made_with, synth_says}
+pub use Rattle.answer_texts.proofs.OutcomeTexts.{corners_says, embed_says, made_with, period_says, schedule_says, synth_says}
 pub use Rattle.answer_texts.specs.Endings.{ending_status}
 pub use Rattle.answer_texts.specs.MoveTexts.{AreWires, IsTreeWire, IsWireAt, IsWiresText, moved_places}
 pub use Rattle.answer_texts.specs.declared.answer.Answer.{Answer}
@@ -26,7 +26,8 @@ pub use Rattle.cts_model.specs.declared.problem.Problem.{Problem}
 pub use Rattle.cts_model.specs.declared.tech.Tech.{Tech}
 pub use Rattle.cts_model.specs.Vocabulary.{line_of, text_of}
 pub use Rattle.failure_lines.specs.Failures.{status_of}
-pub use Rattle.failure_lines.specs.Refusals.{report_failure_of, reason_failure_of, bench_failure_of, tech_failure_of, place_failure_of, topology_failure_of, moves_failure_of, words_failure_of}
+pub use Rattle.cert_check.specs.Reasons.{reason_numbers}
+pub use Rattle.failure_lines.specs.Refusals.{report_failure_of, reason_failure_of, subject_words, bench_failure_of, tech_failure_of, place_failure_of, topology_failure_of, moves_failure_of, words_failure_of}
 pub use Rattle.failure_lines.specs.declared.failure.Failure.{Failure}
 pub use Rattle.failure_lines.specs.declared.failure.Failure.TheVariants.{TooLong, Usage, Refused, WriteFault, ReadFault}
 pub use Rattle.failure_lines.specs.declared.file_kind.FileKind.{FileKind}
@@ -43,5 +44,4 @@ pub use Rattle.cts_program.specs.Files.{corner_files, NamedFile, Request, IsShor
 pub use Rattle.cts_program.specs.MoveSteps.{AppendsWire, IsNearMove}
 pub use Rattle.cts_program.specs.Run.{DenotesText, Stops, refused, wants_memory, IsNoCommand, RefusesRequest, CannotRead, EndsInPart, unread, Fails, usage, stops, unwritten, NoneRose}
 pub use Rattle.cts_program.specs.Steps.{OrMemory, IsStep, IsRead, IsUnread, AreRead, AreUnread, IsReportedAs, IsServed, FailsCircuit}
-pub use Rattle.cts_program.specs.Subjects.{subject_of, IsRegisterReason}
 pub use Rattle.cts_program.specs.Told.{reported, Told, bare, TellsCircuit, placed, nothing, timed, joined, moving, TellsTech, IsTimedSo}

@@ -15,7 +15,6 @@ use Rattle.failure_lines.specs.declared.file_kind.FileKind.{FileKind}
 use Rattle.failure_lines.specs.declared.file_kind.FileKind.TheVariants.{Bench, Tech, Placement}
 use Rattle.failure_lines.specs.Refusals.{reason_failure_of}
 use Rattle.answer_texts.specs.CheckTexts.{IsCheckText}
-use Rattle.cts_program.specs.Subjects.{subject_of}
 use Rattle.answer_texts.specs.CornerTexts.{IsCornersText}
 use Rattle.answer_texts.specs.DemoTexts.{IsDemoText}
 use Rattle.cts_program.specs.DemoFiles.{demo_texts}
@@ -138,7 +137,7 @@ pub record FindsNoPeriod (request : Request) (contents : List (List ℕ)) : Type
 -- a report that is checked is read, but a reason stands against it
 abbrev pub IsUnshown : Form → Told → Failure → Type 0
 IsUnshown Check (reported problem report) failure = (reason : Reason)
-    × (failure ≡ reason_failure_of reason (subject_of problem.circuit reason))
+    × (failure ≡ reason_failure_of problem.circuit reason)
     × IsVerdict problem report (Not reason)
 IsUnshown form told failure = ⊥
 

@@ -5,6 +5,5 @@ pub mod Files
 pub mod MoveSteps
 pub mod Run
 pub mod Steps
-pub mod Subjects
 pub mod Told
 pub mod Vocabulary

@@ -20,7 +20,7 @@ pub use Rattle.cts_model.specs.Vocabulary.{IsLoop, JoinsMoreThan, IsMarginPeriod
 pub use Rattle.cts_model.specs.declared.problem.Problem.{Problem}
 pub use Rattle.cts_model.specs.table.Tables.{IsWithin}
 pub use Rattle.failure_lines.specs.Failures.{status_of, failure_line, Reports}
-pub use Rattle.failure_lines.specs.Refusals.{place_failure_of}
+pub use Rattle.failure_lines.specs.Refusals.{place_failure_of, subject_words}
 pub use Rattle.failure_lines.specs.declared.failure.Failure.{Failure}
 pub use Rattle.failure_lines.specs.declared.file_kind.FileKind.{FileKind}
 pub use Rattle.outcomes.specs.SynthesisOutcomes.{BeginsLowest, IsOutcome, IsShownOutcome}
@@ -31,5 +31,4 @@ pub use Rattle.cts_program.specs.Files.{Request, Ask, AreDenoted, request_of, ci
 pub use Rattle.cts_program.specs.MoveSteps.{AppendsWire, IsNearMove}
 pub use Rattle.cts_program.specs.Run.{Ends, EndsFor, Keeps, Reported, ShowsFaults, IsNoCommand, RefusesRequest, CannotRead, EndsInPart, Fails}
 pub use Rattle.cts_program.specs.Steps.{FailsCircuit, OrMemory, IsServed, AreRead, AreServed, AreUnread, IsStep, TellCorners, IsRead, IsUnread, IsBare}
-pub use Rattle.cts_program.specs.Subjects.{subject_of, IsRegisterReason}
 pub use Rattle.cts_program.specs.Told.{reported, nothing, placed, timed, Told, bare, joined, moving}

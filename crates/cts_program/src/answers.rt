@@ -39,7 +39,8 @@ pub fn period(alloc: Global, denoted: &Denoted) -> Result<Answer, Failure>
     ensures cause { IfErr result (FailsCircuit denoted.now.circuit) }
 {
     let outcome = period_of(alloc, &denoted.circuit, &denoted.tech)?;
-    Ok(period_answer(alloc, &denoted.circuit, &outcome)?)
+    let answer = period_answer(alloc, &denoted.circuit, &outcome)?;
+    Ok(answer)
 }
 
 /// The least schedule of a circuit at its least period.
@@ -51,7 +52,8 @@ pub fn schedule(alloc: Global, denoted: &Denoted) -> Result<Answer, Failure>
     ensures cause { IfErr result (FailsCircuit denoted.now.circuit) }
 {
     let outcome = schedule_of(alloc, &denoted.circuit, &denoted.tech)?;
-    Ok(schedule_answer(alloc, &denoted.circuit, &outcome)?)
+    let answer = schedule_answer(alloc, &denoted.circuit, &outcome)?;
+    Ok(answer)
 }
 
 /// The greatest margin of a circuit at the period that the word spells.
@@ -117,5 +119,6 @@ pub fn corners(alloc: Global, told: &Corners) -> Result<Answer, Failure>
     ensures cause { IfErr result (FailsCircuit told.now.circuit) }
 {
     let outcome = corners_of(alloc, &told.circuit, &told.techs)?;
-    Ok(corners_answer(alloc, &told.circuit, &outcome)?)
+    let answer = corners_answer(alloc, &told.circuit, &outcome)?;
+    Ok(answer)
 }

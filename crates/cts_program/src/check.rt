@@ -1,14 +1,16 @@
 //! The command `check`: whether a report, whoever made it, shows what it says.
 
 ghost use Rattle.std.specs.Prelude.{◌≡◌, ◌<◌, ℕ, length, IfOk, IfErr};
-ghost use Rattle.cts_program.specs.Vocabulary.{IsOfSize, IsWithinBounds, ending_status, IsUnshown, IsCheckText, subject_of, OrMemory, IsRegisterReason, reported};
+ghost use Rattle.cert_check.specs.declared.verdict.Subject.{Subject};
+ghost use Rattle.cts_program.specs.Vocabulary.{IsOfSize, IsWithinBounds, ending_status, IsUnshown, IsCheckText, subject_words, OrMemory, reported};
 ghost use Rattle.command_line.specs.declared.table.Form.TheVariants as forms;
 
 use crate::reading::copied;
 use answer_texts::Answer;
-use cert_check::{Reason, Verdict};
+use cert_check::{Subject, Verdict};
+use cts_base::NoMemory;
 use cts_model::{Circuit, Problem, Report};
-use failure_lines::{Failure, reason_failure};
+use failure_lines::{Failure, Words};
 use report_text::push_line;
 use std::alloc::Global;
 
@@ -28,23 +30,23 @@ pub fn check(alloc: Global, problem: &Problem, report: &Report) -> Result<Answer
             Ok(Answer::done(text))
         }
         Verdict::Not(reason) => {
-            let subject = copied(alloc, subject_of(&problem.circuit, reason))?;
-            Err(reason_failure(reason, subject))
+            let (number, subject) = reason.number_and_subject();
+            Err(Failure::Unshown(number, subject_words(alloc, &problem.circuit, subject)?))
         }
     }
 }
 
-// The name of the register that a reason is about, and no bytes where it is about none.
-fn subject_of(circuit: &Circuit, reason: Reason) -> &[u8]
-    requires { (register : ℕ) → IsRegisterReason reason register
+// What a reason is about, in the words of a failure.
+fn subject_words(alloc: Global, circuit: &Circuit, subject: Subject) -> Result<Words, NoMemory>
+    requires { (register : ℕ) → subject ≡ Subject.Register register
         → register < length circuit.now.registers }
-    ensures { result.now ≡ subject_of circuit.now reason }
+    ensures { IfOk result (λ words. words ≡ subject_words circuit.now subject) }
 {
-    match reason {
-        Reason::ScheduleMisses(register)
-        | Reason::SkewDiffers(register)
-        | Reason::SlackDiffers(register)
-        | Reason::NotLeast(register) => circuit.register_name(register as usize),
-        _ => b"",
-    }
+    Ok(match subject {
+        Subject::Whole => Words::Nothing,
+        Subject::Place(place) => Words::Place(place),
+        Subject::Register(register) => {
+            Words::Register(copied(alloc, circuit.register_name(register as usize))?)
+        }
+    })
 }

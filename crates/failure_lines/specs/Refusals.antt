@@ -1,10 +1,11 @@
 -- The table of refusals: for each fault the kind of the file, the number of the fault and its
 -- words. Want of memory is no refusal.
-use Rattle.std.specs.Prelude.{ℕ, List}
 use Rattle.bench_reader.specs.declared.fault.BenchFault.{BenchFault}
 use Rattle.bench_reader.specs.declared.fault.BenchFault.TheVariants as bench
 use Rattle.cert_check.specs.declared.verdict.Reason.{Reason}
-use Rattle.cert_check.specs.declared.verdict.Reason.TheVariants as reason
+use Rattle.cert_check.specs.declared.verdict.Subject.{Subject}
+use Rattle.cert_check.specs.declared.verdict.Subject.TheVariants as subject
+use Rattle.cert_check.specs.Reasons.{reason_numbers}
 use Rattle.command_line.specs.declared.command.WordsFault.{WordsFault}
 use Rattle.command_line.specs.declared.command.WordsFault.TheVariants as words
 use Rattle.cts_model.specs.declared.circuit.Circuit.{Circuit}
@@ -17,6 +18,7 @@ use Rattle.path_delays.specs.declared.fault.PairFault.{PairFault}
 use Rattle.path_delays.specs.declared.fault.PairFault.TheVariants as pairs
 use Rattle.place_reader.specs.declared.fault.PlaceFault.{PlaceFault}
 use Rattle.place_reader.specs.declared.fault.PlaceFault.TheVariants as place
+use Rattle.report_text.specs.FaultNumbers.{fault_numbers}
 use Rattle.report_text.specs.declared.fault.ReportFault.{ReportFault}
 use Rattle.report_text.specs.declared.fault.ReportFault.TheVariants as report
 use Rattle.topology_file.specs.declared.fault.TopologyFault.{TopologyFault}
@@ -25,6 +27,7 @@ use Rattle.failure_lines.specs.declared.failure.Failure.{Failure}
 use Rattle.failure_lines.specs.declared.failure.Failure.TheVariants.{Usage, Refused, Pairs, Unshown, NoMemory}
 use Rattle.failure_lines.specs.declared.file_kind.FileKind.{FileKind}
 use Rattle.failure_lines.specs.declared.file_kind.FileKind.TheVariants.{Bench, Placement, Report, Topology, Moves}
+use Rattle.failure_lines.specs.declared.words.Words.{Words}
 use Rattle.failure_lines.specs.declared.words.Words.TheVariants.{Nothing, Line, Limit, Number, Key, Gate, Register, Loop, Place}
 
 -- the words of a call
@@ -83,30 +86,19 @@ moves_failure_of moves.NoMemory = NoMemory
 
 -- a text that is no report
 abbrev pub report_failure_of : ReportFault → Failure
-report_failure_of (report.BadLine line) = Refused Report 1 (Line line)
-report_failure_of (report.UnknownRegister line) = Refused Report 2 (Line line)
-report_failure_of (report.Missing line) = Refused Report 3 (Line line)
-report_failure_of (report.Extra line) = Refused Report 4 (Line line)
-report_failure_of (report.TooLarge line) = Refused Report 5 (Line line)
 report_failure_of report.NoMemory = NoMemory
-report_failure_of (report.UnknownSignal line) = Refused Report 7 (Line line)
+report_failure_of fault = Refused Report (fault_numbers fault).0 (Line (fault_numbers fault).1)
 
--- a report that doesn't show what it says, with the name of the register that the reason is about
-abbrev pub reason_failure_of : Reason → (subject : List ℕ) → Failure
-reason_failure_of reason.BelowFloor subject = Unshown 1 Nothing
-reason_failure_of (reason.CycleBroken place) subject = Unshown 2 (Place place)
-reason_failure_of (reason.NotOfCircuit place) subject = Unshown 3 (Place place)
-reason_failure_of reason.CycleValue subject = Unshown 4 Nothing
-reason_failure_of (reason.ScheduleMisses register) subject = Unshown 5 (Register subject)
-reason_failure_of (reason.TreeShape node) subject = Unshown 6 (Place node)
-reason_failure_of (reason.TooShort node) subject = Unshown 7 (Place node)
-reason_failure_of (reason.WireSum node) subject = Unshown 8 (Place node)
-reason_failure_of (reason.SkewDiffers register) subject = Unshown 9 (Register subject)
-reason_failure_of (reason.Unshown node) subject = Unshown 10 (Place node)
-reason_failure_of reason.Total subject = Unshown 11 Nothing
-reason_failure_of (reason.SlackDiffers register) subject = Unshown 12 (Register subject)
-reason_failure_of (reason.PathBroken place) subject = Unshown 13 (Place place)
-reason_failure_of (reason.NotLeast register) subject = Unshown 14 (Register subject)
+-- what a reason is about; a register by its name
+abbrev pub subject_words : Circuit → Subject → Words
+subject_words circuit subject.Whole = Nothing
+subject_words circuit (subject.Place place) = Place place
+subject_words circuit (subject.Register register) = Register (register_name circuit register)
+
+-- a report that doesn't show what it says
+abbrev pub reason_failure_of : Circuit → Reason → Failure
+reason_failure_of circuit reason =
+    Unshown (reason_numbers reason).0 (subject_words circuit (reason_numbers reason).1)
 
 -- a circuit that has no outcome
 abbrev pub pair_failure_of : PairFault → Failure

@@ -11,5 +11,5 @@ mod words;
 
 pub use failure::Failure;
 pub use file_kind::FileKind;
-pub use refusals::{Fault, reason_failure, tech_failure};
+pub use refusals::{Fault, tech_failure};
 pub use words::Words;

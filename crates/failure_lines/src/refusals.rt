@@ -2,15 +2,13 @@
 //! words.
 
 ghost use Rattle.std.specs.Prelude.{◌≡◌};
-ghost use Rattle.failure_lines.specs.Vocabulary.{Failure, NoMemory, Tech, words_failure_of, bench_failure_of, tech_failure_of, topology_failure_of, moves_failure_of, report_failure_of, reason_failure_of, pair_failure_of};
+ghost use Rattle.failure_lines.specs.Vocabulary.{Failure, NoMemory, Tech, words_failure_of, bench_failure_of, tech_failure_of, topology_failure_of, moves_failure_of, report_failure_of, pair_failure_of};
 
-use crate::failure::Failure::{self, Refused, Unshown};
+use crate::failure::Failure::{self, Refused};
 use crate::file_kind::FileKind::{self, Bench, Moves, Report, Topology};
-use crate::words::Words::{Gate, Key, Limit, Line, Loop, Nothing, Number, Place, Register};
+use crate::words::Words::{Gate, Key, Limit, Line, Loop, Nothing, Number};
 use bench_reader::BenchFault;
-use cert_check::Reason;
 use command_line::WordsFault;
-use cts_base::Name;
 use delay_tables::TechFault;
 use move_session::MovesFault;
 use path_delays::PairFault;
@@ -105,13 +103,11 @@ impl Fault for ReportFault {
 
     fn failure(self) -> Failure {
         match self {
-            ReportFault::BadLine(line) => Refused(Report, 1, Line(line)),
-            ReportFault::UnknownRegister(line) => Refused(Report, 2, Line(line)),
-            ReportFault::Missing(line) => Refused(Report, 3, Line(line)),
-            ReportFault::Extra(line) => Refused(Report, 4, Line(line)),
-            ReportFault::TooLarge(line) => Refused(Report, 5, Line(line)),
             ReportFault::NoMemory => Failure::NoMemory,
-            ReportFault::UnknownSignal(line) => Refused(Report, 7, Line(line)),
+            fault => {
+                let (number, line) = fault.number_and_line();
+                Refused(Report, number, Line(line))
+            }
         }
     }
 }
@@ -148,28 +144,5 @@ pub fn tech_failure(kind: FileKind, fault: TechFault) -> Failure
         TechFault::MissingKind(gate) => Refused(kind, 6, Gate(gate)),
         TechFault::UnknownKey(key) => Refused(kind, 7, Key(key)),
         TechFault::NoMemory => Failure::NoMemory,
-    }
-}
-
-/// The failure where this reason, which is about the register of this name or about none, stands
-/// against a report.
-pub fn reason_failure(reason: Reason, subject: Name) -> Failure
-    ensures { result ≡ reason_failure_of reason subject }
-{
-    match reason {
-        Reason::BelowFloor => Unshown(1, Nothing),
-        Reason::CycleBroken(place) => Unshown(2, Place(place)),
-        Reason::NotOfCircuit(place) => Unshown(3, Place(place)),
-        Reason::CycleValue => Unshown(4, Nothing),
-        Reason::ScheduleMisses(_) => Unshown(5, Register(subject)),
-        Reason::TreeShape(node) => Unshown(6, Place(node)),
-        Reason::TooShort(node) => Unshown(7, Place(node)),
-        Reason::WireSum(node) => Unshown(8, Place(node)),
-        Reason::SkewDiffers(_) => Unshown(9, Register(subject)),
-        Reason::Unshown(node) => Unshown(10, Place(node)),
-        Reason::Total => Unshown(11, Nothing),
-        Reason::SlackDiffers(_) => Unshown(12, Register(subject)),
-        Reason::PathBroken(place) => Unshown(13, Place(place)),
-        Reason::NotLeast(_) => Unshown(14, Register(subject)),
     }
 }

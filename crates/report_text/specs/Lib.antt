@@ -3,6 +3,7 @@ pub mod LineFields
 pub mod LineForms
 pub mod Forms
 pub mod Fields
+pub mod FaultNumbers
 pub mod ReportFaults
 pub mod Values
 pub mod Walks

@@ -1,6 +1,6 @@
 -- What is wrong with a text that spells no report, and what holds of each text. Lines are judged
 -- in order, each by the form that is due. The order and the faults are this project's choice.
-use Rattle.std.specs.Prelude.{◌≡◌, ◌⊎◌, ◌+◌, Bool, ◌==◌, ◌^◌, ℕ, ℤ, pos, ◌*ℤ◌, ◌∷◌, [], List, Option, Some, None, length, take, drop, get_or, if◌then◌else◌, codes, MatchBool, MatchOption, position}
+use Rattle.std.specs.Prelude.{◌≡◌, ◌⊎◌, ◌+◌, ◌==◌, ◌^◌, ℕ, ℤ, pos, ◌*ℤ◌, ◌∷◌, [], List, Option, Some, None, length, take, drop, get_or, if◌then◌else◌, codes, MatchBool, MatchOption, position}
 use Rattle.report_text.specs.Common.{Report, Spells, is_line_feed, after_first, slice_split, list_any, bytes_eq, digits_value, is_slash, Circuit, Version, Tech, ReportFault, BadLine, UnknownRegister, Missing, Extra, TooLarge, UnknownSignal, Flaw, Scale, First, Second}
 use Rattle.report_text.specs.LineForms as form
 use Rattle.report_text.specs.declared.field.Flaw.TheVariants.{Unknown, Large}

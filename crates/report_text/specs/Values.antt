@@ -1,6 +1,6 @@
 -- What the lines of a report tell: their words, and values within their bounds.
 use Rattle.std.specs.Prelude.{All, List, None, Option, Some, [], codes, length, pos, take, ℕ, ℤ, ◌++◌, ◌<ℤ◌, ◌<◌, ◌^◌, ◌∷◌, ◌≡◌, ◌≤ℤ◌, ◌≤◌}
-use Rattle.report_text.specs.Common.{quotient_text, IsBelow, Fraction, Circuit, Constraint, Point, Report, Lead, IsPointBelow, IsSmallWire, HasSmallWeight, IsBetweenRegisters, LeadsAmong, IsSmallLead, IsMergeShow, IsSmallMerge, IsSourceShow, ShowsAmong, lead_line, path_line, show_words, Words, count_line, period_line, register_line, floor_line, line_for, IsSmallPeriod, AreSmallSlacks, Scale, Timed, MergeLine, NodeLine, SourceLine, signed_decimal, flat_map}
+use Rattle.report_text.specs.Common.{quotient_text, IsBelow, Circuit, Constraint, Point, Report, Lead, IsPointBelow, IsSmallWire, HasSmallWeight, IsBetweenRegisters, LeadsAmong, IsSmallLead, IsMergeShow, IsSmallMerge, IsSourceShow, ShowsAmong, lead_line, path_line, show_words, Words, count_line, register_line, floor_line, line_for, AreSmallSlacks, Scale, Timed, MergeLine, NodeLine, SourceLine, signed_decimal, flat_map}
 
 -- words that stand after others on a line: each after a space
 abbrev pub suffix : Words → List ℕ

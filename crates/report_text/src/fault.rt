@@ -1,4 +1,5 @@
 ghost use Rattle.std.specs.Prelude.{◌≡◌};
+ghost use Rattle.report_text.specs.FaultNumbers.{fault_numbers};
 ghost use Rattle.report_text.specs.declared.fault.ReportFault.TheVariants as fault;
 
 use cts_base::NoMemory;
@@ -20,6 +21,24 @@ pub enum ReportFault {
     NoMemory,
     /// The line names a signal that the circuit hasn't.
     UnknownSignal(u32),
+}
+
+impl ReportFault {
+    /// The fault's number, as the program prints it, and its line; want of memory has no line, and
+    /// 0 in its place.
+    pub fn number_and_line(self) -> (u32, u32)
+        ensures { result ≡ fault_numbers self }
+    {
+        match self {
+            ReportFault::BadLine(line) => (1, line),
+            ReportFault::UnknownRegister(line) => (2, line),
+            ReportFault::Missing(line) => (3, line),
+            ReportFault::Extra(line) => (4, line),
+            ReportFault::TooLarge(line) => (5, line),
+            ReportFault::NoMemory => (6, 0),
+            ReportFault::UnknownSignal(line) => (7, line),
+        }
+    }
 }
 
 impl From<NoMemory> for ReportFault {

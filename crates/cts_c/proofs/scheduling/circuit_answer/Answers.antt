@@ -1,4 +1,5 @@
 use Rattle.cts_c.proofs.Vocabulary.{err_from_is_err_and}
+use Rattle.answer_texts.proofs.OutcomeTexts.{schedule_says}
 use Rattle.cts_c.proofs.RefusalLemmas.{many_pairs}
 use Rattle.cts_c.proofs.StatusLemmas.{never_scheduled}
 use Rattle.cts_c.proofs.scheduling.circuit_answer.Goals as goal
@@ -16,10 +17,7 @@ returns-clause-answered c = record {
 }
 
 pub returns-clause-text : goal.returns-clause-text
-returns-clause-text c = record {
-  outcome = c.in_ok-outcome.outcome;
-  least = c.in_ok-outcome.ensures.ok;
-  lowest = c.in_ok-outcome.ensures.lowest;
-  status_is = c.in_ok-answer.ensures.ending;
-  spelled = c.in_ok-answer.ensures.text;
-}
+returns-clause-text c =
+    schedule_says c.args.circuit.now c.args.tech.now c.in_ok-outcome.outcome
+    c.in_ok-outcome.ensures.ok c.in_ok-outcome.ensures.lowest _ _ c.in_ok-answer.ensures.ending
+    c.in_ok-answer.ensures.text

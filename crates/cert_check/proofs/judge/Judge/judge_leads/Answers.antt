@@ -1,5 +1,5 @@
 -- The test of a tight lead is that of its constraint.
-use Rattle.cert_check.proofs.Vocabulary.{◌≡◌, ◌↔◌, ◌∷◌, [], All, IsTrue, length, take, get_or, rules, ap, subst, sym, ◌∙◌, arith, length-append, Zero, IsOfCircuit, IsBetweenRegisters, Earliest, tight_constraints}
+use Rattle.cert_check.proofs.Vocabulary.{◌↔◌, ◌∷◌, [], All, IsTrue, length, take, get_or, rules, ap, subst, sym, ◌∙◌, arith, length-append, Zero, IsOfCircuit, IsBetweenRegisters, Earliest, tight_constraints}
 use Rattle.cert_check.proofs.FirstPlaces.{denied, each_more}
 use Rattle.cert_check.proofs.JudgeFacts.{listed_count, listed_second, second_count}
 use Rattle.cert_check.proofs.TightLemmas.{tight_among, tight_more, tight_tested}
