@@ -98,6 +98,8 @@ compare placed_names synth 3 0
 compare deep_chain moves 3 0
 compare far_chain moves 3 0
 compare hidden_axis synth 3 0
+compare dead_gates zero 3 0
+compare host_outputs zero 3 0
 compare long_key zero 6 3 0
 compare array zero 3 3
 compare headers zero 6 3

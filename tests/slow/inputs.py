@@ -95,6 +95,32 @@ def placement_on_line(hidden):
     return lines, table({}), places
 
 
+def ring_read(registers):
+    """A ring of registers, and a gate that reads them all."""
+    lines = ["INPUT(x)"] + [f"r{one} = DFF(r{(one or registers) - 1})" for one in range(registers)]
+    return lines + ["all = OR(" + ", ".join(f"r{one}" for one in range(registers)) + ")"]
+
+
+def dead_gates(reached):
+    """Many gates that lead to no register and that all registers reach, or none does."""
+    lines = ring_read(1000) + [f"h0 = AND({'all' if reached else 'x'})", "OUTPUT(h59999)"]
+    for gate in range(1, 60_000):
+        lines.append(f"h{gate} = AND(" + ", ".join(f"h{before}" for before in range(max(0, gate - 4), gate)) + ")")
+    return lines, table({"OR": (1, 0), "AND": (1, 0)}, setup=1)
+
+
+def host_outputs(each):
+    """Many gates that all registers reach. The host captures each, or one that all the others lead to."""
+    lines = ring_read(1000) + [f"g{gate} = BUFF(all)" for gate in range(60_000)]
+    if each:
+        lines += [f"OUTPUT(g{gate})" for gate in range(60_000)]
+    else:
+        for first in range(0, 60_000, 1000):
+            lines.append(f"o{first} = OR(" + ", ".join(f"g{gate}" for gate in range(first, first + 1000)) + ")")
+        lines += ["o = OR(" + ", ".join(f"o{first}" for first in range(0, 60_000, 1000)) + ")", "OUTPUT(o)"]
+    return lines, table({"OR": (1, 0), "BUFF": (1, 0)}, setup=1) + '[host]\nplace = "CLK"\n'
+
+
 def outputs(lines):
     """Many lines that name one output."""
     return ["INPUT(x)", "r = DFF(g)", "g = NOT(r)"] + ["OUTPUT(g)"] * lines, table({"NOT": (1, 0)})
@@ -162,6 +188,8 @@ def main(folder, names_file=None):
         "deep_chain": deep_chain(4095),
         "far_chain": far_chain(3000),
         "hidden_axis": (placement_on_line(True), placement_on_line(False)),
+        "dead_gates": (dead_gates(True), dead_gates(False)),
+        "host_outputs": (host_outputs(True), host_outputs(False)),
         "outputs": (outputs(200_000), outputs(1)),
         "long_key": (table_with(f"{long_name} = 1"), table_with(f"# {long_name}")),
         "array": (table_with("x = [" + "{a=1}," * 150_000 + "]"), table_with(keys)),
