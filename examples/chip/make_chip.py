@@ -89,7 +89,7 @@ class Chip:
             self.reads[register] = self.chain(f"l{number}", first, 1 + away * SIDE // 6)
 
     def logic(self, patch):
-        """Levels of gates over the registers of a patch and those beside it, and what reads them."""
+        """Levels of gates over registers of a patch and of those beside it, and what reads them."""
         x, y = self.at(patch)
         beside = [self.patch_at(x + dx, y + dy) for dx, dy in ((1, 0), (-1, 0), (0, 1), (0, -1))]
         own, around = self.names(patch), [name for near in beside if near is not None
