@@ -18,9 +18,13 @@ def judged(folder, block):
     path = f"{folder}/{block}"
     for line in lines_of(f"{path}.shown"):
         said, name = line.split()
-        with open(f"{folder}/{name}", "rb") as file:
-            if hashlib.sha256(file.read()).hexdigest() != said:
-                fail(f"{folder}/{name}", "it isn't the file that check has judged")
+        try:
+            with open(f"{folder}/{name}", "rb") as file:
+                found = hashlib.sha256(file.read()).hexdigest()
+        except OSError as error:
+            fail(f"{folder}/{name}", error.strerror)
+        if found != said:
+            fail(f"{folder}/{name}", "it isn't the file that check has judged")
 
 
 class Tree:
