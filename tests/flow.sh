@@ -746,6 +746,35 @@ if has yosys && has berkeley-abc; then
 else
     left_out "yosys and berkeley-abc aren't both there" 'what is refused of Verilog'
 fi
+# A chip past the limits: cut, solved block by block, joined and signed off. Where a block's process is killed, a report is altered or
+# a block has no schedule, nothing is joined.
+if has parallel && has sta && has_toml; then
+    chip=$top/examples/chip
+    chip_of() { CTS=$1 "$chip/chip.sh" "$work/chip.bench" "$top/examples/biquad.toml" "$work/chip.pl" "${@:2}"; }
+    refused_as() {
+        local pattern=$1
+        shift
+        ! "$@" >"$work/line" 2>&1 && grep -e "$pattern" "$work/line"
+    }
+    holds 'a chip of 6,000 registers' "$chip/make_chip.py" 6000 1 "$work/chip"
+    holds 'the chip by its blocks' chip_of "$program" "$work/blocks" "$work/whole"
+    holds 'the period of the chip' same <(echo 1782) <(word period whole.joined)
+    mkdir "$work/again" && cp -r "$work/blocks/blocks" "$work/blocks/cut" "$work/again"
+    printf '#!/usr/bin/env bash\n[ "$1 $3" != "synth 1.bench" ] || kill -9 $$\nexec %q "$@"\n' "$program" >"$work/dying"
+    chmod +x "$work/dying"
+    holds 'a block that is killed' refused_as 'ends with status 137' chip_of "$work/dying" "$work/again" "$work/killed" 1782
+    holds 'no chip without that block' test ! -e "$work/killed.joined"
+    holds 'the same call goes on' chip_of "$program" "$work/again" "$work/killed" 1782
+    holds 'the chip as without the kill' same "$work/whole.joined" "$work/killed.joined"
+    echo >>"$work/again/1782/0.cts"
+    holds 'a report that is altered' refused_as "0.cts: it isn't the file that check has judged" \
+        "$chip/join.py" "$work/chip.bench" "$top/examples/biquad.toml" "$work/again" 1782
+    holds 'a period too short for a block' refused_as 'the block needs a period of 1408, and not 900' \
+        chip_of "$program" "$work/blocks" "$work/short" 900
+    holds 'no chip at that period' test ! -e "$work/short.joined"
+else
+    left_out "parallel, OpenSTA and a Python with tomllib aren't all there" 'the chip past the limits'
+fi
 cd "$work" || exit 1
 
 echo "flow: $passed passed, $failed failed"

@@ -245,7 +245,7 @@ expect 'a file that is missing' 0 $'cts: nowhere: there is no such file\nread fa
 # Each script says what it does, and does nothing else. A file that can't be run is read by others.
 scripts() {
     local script
-    for script in "$top"/tests/*.{sh,py} "$top"/examples/flow/*.{sh,py} "$top"/bench/{run,beside,page,gate}.py; do
+    for script in "$top"/tests/*.{sh,py} "$top"/examples/{flow,chip}/*.{sh,py} "$top"/bench/{run,beside,page,gate}.py; do
         [ -x "$script" ] || continue
         PATH=$work/fake:$PATH timeout 10 "$script" --help >"$work/help" </dev/null && [ -s "$work/help" ] || echo "$script"
     done
